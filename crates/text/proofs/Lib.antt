@@ -1,0 +1,6 @@
+pub mod Decimals
+pub mod Digits
+pub mod Overwriting
+pub mod Parting
+pub mod Search
+pub mod Spelling
