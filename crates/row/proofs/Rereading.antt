@@ -67,6 +67,9 @@ spelled-short : (ws : List ℕ) → Words ws → spelled ws ≤ 11 * length ws
 spelled-short [] h = omega arith
 spelled-short (w ∷ ws) h = omega (arith, length-word w (h .0), spelled-short ws (h .1))
 
+pub row-short : (ws : List ℕ) → length ws ≤ 64 → ((i : ℕ) → getD ws i 0 < 2 ^ 32) → length (row-bytes ws) ≤ 704
+row-short ws h fits = omega (arith, length-row ws, spelled-short ws (words-from ws fits))
+
 -- the fields of the line are what is written of the words, and each is its word
 due-fields : (ws : List ℕ) → Words ws → fields-due (length ws) (with-commas (map decimal ws)) ≡ map decimal ws
 due-fields [] h = refl

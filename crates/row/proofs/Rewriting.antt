@@ -84,14 +84,16 @@ write-fits row other narrow room =
     cond-false (ltb 64 (length row)) (Err TooWide, other) _ (le-ltb 64 (length row) narrow)
     ∙ cond-false (ltb (length other) (length (row-bytes row))) (Err NoRoom, other) (Ok (length (row-bytes row)), overwritten other 0 (row-bytes row)) (le-ltb (length other) (length (row-bytes row)) room)
 
+-- the bytes of the row that was read
+pub row-again : (text : List ℕ) (place : ℕ) (line : List ℕ) (due : ℕ) (words : List ℕ) → line-at text place ≡ Some line → line-words due line ≡ Ok words → row-bytes words ≡ take (length line + 1) (drop place text)
+row-again text place line due words e good =
+    ap (λ (l : List ℕ). l ++ (newline ∷ [])) (line-again due line words good) ∙ sym (line-bytes text place line e)
+
 pub rewrites : (text : List ℕ) (place end : ℕ) (row line : List ℕ) → length row ≤ 64 → line-at text place ≡ Some line → line-words (length row) line ≡ Ok row → end ≡ place + length line + 1 → Rewrites text place end row
 rewrites text place end row line narrow e good to = record { again = λ other room. write-fits row other narrow (omega (arith, long)) ∙ ap₂ (λ (n : ℕ) (bs : List ℕ). (Ok n, overwritten other 0 bs)) long bytes }
   where
     bytes : row-bytes row ≡ take (end - place) (drop place text)
-    bytes =
-        ap (λ (l : List ℕ). l ++ (newline ∷ [])) (line-again (length row) line row good)
-        ∙ sym (line-bytes text place line e)
-        ∙ ap (λ (n : ℕ). take n (drop place text)) (let n : length line + 1 ≡ end - place = omega arith in n)
+    bytes = row-again text place line (length row) row e good ∙ ap (λ (n : ℕ). take n (drop place text)) (let n : length line + 1 ≡ end - place = omega arith in n)
 
     long : length (row-bytes row) ≡ end - place
     long =

@@ -2,7 +2,7 @@
 use mathlib.Core.Bool.{Bool, true, false, cond}
 use mathlib.Core.List.{List, [], _∷_, _++_}
 use mathlib.Core.Path.{_≡_, refl, sym, ap, _∙_}
-use Prim.Native.Nat.{ℕ, suc, _+_, _<_, _≤_}
+use Prim.Native.Nat.{ℕ, zero, suc, _+_, _<_, _≤_}
 use native.Mathlib.Omega.{arith}
 use lib.Dec.{eqb}
 use lib.ListN.{length, take, drop, getD}
@@ -57,6 +57,43 @@ position-found byte (b ∷ bs) n e = go (eqb b byte) refl (position byte bs) ref
         let z : n ≡ suc m = cc (position-past byte b bs t ∙ ap (mapped suc) p) in
         let h = ih m p in
         (omega arith, rw z (ap (λ (ys : List ℕ). b ∷ ys) (h .1)))
+
+-- in the front of a list: where it stands before the cut, and not where it stands behind
+pub position-within : (byte : ℕ) (xs : List ℕ) (n k : ℕ) → position byte xs ≡ Some n → n < k → position byte (take k xs) ≡ Some n
+position-within byte xs n zero e h = absurd (omega arith)
+position-within byte [] n (suc k) e h = e
+position-within byte (b ∷ bs) n (suc k) e h = go (eqb b byte) refl (position byte bs) refl (λ m. position-within byte bs m k)
+  where
+    go : (t : Bool) → eqb b byte ≡ t → (o : Option ℕ) → position byte bs ≡ o → ((m : ℕ) → position byte bs ≡ Some m → m < k → position byte (take k bs) ≡ Some m) → position byte (b ∷ take k bs) ≡ Some n
+    go true t o p ih = position-at byte b (take k bs) t ∙ sym (position-at byte b bs t) ∙ e
+    go false t None p ih = let z : _≡_ {A = ℕ} 0 1 = cc (position-past byte b bs t ∙ ap (mapped suc) p) in absurd (omega arith)
+    go false t (Some m) p ih =
+        let z : n ≡ suc m = cc (position-past byte b bs t ∙ ap (mapped suc) p) in
+        position-past byte b (take k bs) t ∙ ap (mapped suc) (ih m p (omega arith)) ∙ ap Some (sym z)
+
+pub position-beyond : (byte : ℕ) (xs : List ℕ) (n k : ℕ) → position byte xs ≡ Some n → k ≤ n → position byte (take k xs) ≡ None
+position-beyond byte xs n zero e h = refl
+position-beyond byte [] n (suc k) e h = refl
+position-beyond byte (b ∷ bs) n (suc k) e h = go (eqb b byte) refl (position byte bs) refl (λ m. position-beyond byte bs m k)
+  where
+    go : (t : Bool) → eqb b byte ≡ t → (o : Option ℕ) → position byte bs ≡ o → ((m : ℕ) → position byte bs ≡ Some m → k ≤ m → position byte (take k bs) ≡ None) → position byte (b ∷ take k bs) ≡ None
+    go true t o p ih = let z : n ≡ 0 = cc (position-at byte b bs t) in absurd (omega arith)
+    go false t None p ih = let z : _≡_ {A = ℕ} 0 1 = cc (position-past byte b bs t ∙ ap (mapped suc) p) in absurd (omega arith)
+    go false t (Some m) p ih =
+        let z : n ≡ suc m = cc (position-past byte b bs t ∙ ap (mapped suc) p) in
+        position-past byte b (take k bs) t ∙ ap (mapped suc) (ih m p (omega arith))
+
+pub position-back : (byte : ℕ) (xs : List ℕ) (n k : ℕ) → position byte (take k xs) ≡ Some n → position byte xs ≡ Some n
+position-back byte xs n zero e = let z : _≡_ {A = ℕ} 0 1 = cc in absurd (omega arith)
+position-back byte [] n (suc k) e = e
+position-back byte (b ∷ bs) n (suc k) e = go (eqb b byte) refl (position byte (take k bs)) refl (λ m. position-back byte bs m k)
+  where
+    go : (t : Bool) → eqb b byte ≡ t → (o : Option ℕ) → position byte (take k bs) ≡ o → ((m : ℕ) → position byte (take k bs) ≡ Some m → position byte bs ≡ Some m) → position byte (b ∷ bs) ≡ Some n
+    go true t o p ih = position-at byte b bs t ∙ sym (position-at byte b (take k bs) t) ∙ e
+    go false t None p ih = let z : _≡_ {A = ℕ} 0 1 = cc (position-past byte b (take k bs) t ∙ ap (mapped suc) p) in absurd (omega arith)
+    go false t (Some m) p ih =
+        let z : n ≡ suc m = cc (position-past byte b (take k bs) t ∙ ap (mapped suc) p) in
+        position-past byte b bs t ∙ ap (mapped suc) (ih m p) ∙ ap Some (sym z)
 
 module _ (byte : ℕ) (text : List ℕ) (at : ℕ) where
   pub first-here : at < length text → getD text at 0 ≡ byte → first-from byte text at ≡ Some at

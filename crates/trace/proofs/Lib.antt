@@ -1,0 +1,3 @@
+pub mod Echo
+pub mod FirstLines
+pub mod Steps
