@@ -1,13 +1,12 @@
 -- How many bytes a row has.
-use mathlib.Core.List.{List, [], _∷_, _++_, map}
-use mathlib.Core.Path.{_≡_, refl, sym, ap, _∙_}
-use Prim.Native.Nat.{ℕ, _+_, _*_, _^_, _<_, _≤_, max}
+use mathlib.Core.List.{List, [], _∷_}
+use mathlib.Core.Path.{_≡_, refl, ap}
+use Prim.Native.Nat.{ℕ, _+_, _<_, _≤_, max}
 use native.Mathlib.Omega.{arith}
 use lib.ListN.{length, drop, getD}
-use Rattle.std.proofs.shelf.Lists.{at-drop-all, at-drop-more, length-append, length-drop}
+use Rattle.std.proofs.shelf.Lists.{at-drop-all, at-drop-more, length-append}
 use Rattle.std.specs.Written.{decimal}
-use Rattle.text.specs.Fields.{after-commas, with-commas}
-use Rattle.row.specs.Rows.{newline, row-bytes}
+use Rattle.row.specs.Rows.{row-bytes}
 use Rattle.row.proofs.Tails.{tail, length-tail-first, row-first}
 
 -- the bytes of words, each with the byte behind it

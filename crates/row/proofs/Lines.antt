@@ -1,12 +1,10 @@
 -- The line of a row, from where it ends, and what reading then gives.
-use mathlib.Core.Bool.{true, false, cond}
-use mathlib.Core.List.{List, [], _∷_, _++_}
-use mathlib.Core.Path.{_≡_, refl, sym, ap, _∙_}
-use Prim.Native.Nat.{ℕ, zero, suc, _+_, _-_, _<_, _≤_}
+use mathlib.Core.List.{List}
+use mathlib.Core.Path.{_≡_, refl, ap, _∙_}
+use Prim.Native.Nat.{ℕ, _+_, _-_, _≤_}
 use native.Mathlib.Omega.{arith}
 use lib.Dec.{ltb}
 use lib.ListN.{length, take, drop}
-use Rattle.std.proofs.shelf.Lists.{length-drop, length-take}
 use Rattle.std.proofs.shelf.Parts.{between-is}
 use Rattle.std.proofs.shelf.Tests.{cond-false, le-ltb}
 use Rattle.std.specs.Options.{Cases, mapped}
@@ -16,7 +14,7 @@ use Rattle.std.specs.declared.result.Result.{Result}
 use Rattle.std.specs.declared.result.Result.the-variants.{Ok, Err}
 use Rattle.row.specs.declared.faults.RowFault.{RowFault}
 use Rattle.row.specs.declared.faults.RowFault.the-variants.{TooWide, Unended}
-use Rattle.row.specs.Reading.{ending, line-at, line-length, line-words, read-row, row-at, row-of, settled, width-at, width-of}
+use Rattle.row.specs.Reading.{ending, line-at, line-length, line-words, read-row, row-of, settled}
 
 -- where the row ends tells its line
 end-none : (place : ℕ) (o : Option ℕ) → None ≡ mapped (λ n. place + n) o → o ≡ None

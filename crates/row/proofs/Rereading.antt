@@ -1,7 +1,7 @@
 -- A row written has its values when it is read again.
-use mathlib.Core.Bool.{Bool, true, false, cond, _&&_}
+use mathlib.Core.Bool.{true, cond}
 use mathlib.Core.List.{List, [], _∷_, _++_, map}
-use mathlib.Core.Path.{_≡_, refl, sym, ap, ap₂, _∙_}
+use mathlib.Core.Path.{_≡_, refl, ap, ap₂, _∙_}
 use Prim.Native.Nat.{ℕ, zero, suc, _+_, _-_, _*_, _^_, _<_, _≤_}
 use native.Mathlib.Omega.{arith}
 use lib.Dec.{eqb}
@@ -18,7 +18,7 @@ use Rattle.text.proofs.Decimals.{length-word, spells-decimal}
 use Rattle.text.proofs.Parting.{fields-unique}
 use Rattle.text.proofs.Search.{position-append, position-neither, position-past}
 use Rattle.text.proofs.Spelling.{word-from-spells}
-use Rattle.text.specs.Fields.{after-commas, comma, fields, with-commas}
+use Rattle.text.specs.Fields.{after-commas, comma, with-commas}
 use Rattle.text.specs.Parts.{overwritten, position}
 use Rattle.text.specs.Words.{all-digits, is-digit, word-in}
 use Rattle.row.specs.declared.faults.RowFault.the-variants.{FieldCount}

@@ -1,5 +1,5 @@
 -- A row read has its bytes when it is written again.
-use mathlib.Core.Bool.{Bool, true, false, cond}
+use mathlib.Core.Bool.{Bool, true, false}
 use mathlib.Core.List.{List, [], _∷_, _++_, map}
 use mathlib.Core.Path.{_≡_, refl, sym, ap, ap₂, _∙_}
 use Prim.Native.Nat.{ℕ, zero, suc, _+_, _-_, _<_, _≤_}
@@ -12,7 +12,6 @@ use Rattle.std.specs.Options.{mapped, valueOr}
 use Rattle.std.specs.Written.{decimal}
 use Rattle.std.specs.declared.option.Option.{Option}
 use Rattle.std.specs.declared.option.Option.the-variants.{Some, None}
-use Rattle.std.specs.declared.result.Result.{Result}
 use Rattle.std.specs.declared.result.Result.the-variants.{Ok, Err}
 use Rattle.text.proofs.Decimals.{decimal-from-spells}
 use Rattle.text.proofs.Parting.{fields-whole}
@@ -21,7 +20,6 @@ use Rattle.text.proofs.Spelling.{spells-from-word}
 use Rattle.text.specs.Fields.{with-commas}
 use Rattle.text.specs.Parts.{overwritten, position}
 use Rattle.text.specs.Words.{word-in}
-use Rattle.row.specs.declared.faults.RowFault.{RowFault}
 use Rattle.row.specs.declared.faults.RowFault.the-variants.{TooWide, NoRoom, FieldCount}
 use Rattle.row.specs.Reading.{field-words, fields-due, first-bad, line-at, line-length, line-words, unless-bad, words-of}
 use Rattle.row.specs.Rows.{most-bytes, newline, row-bytes}

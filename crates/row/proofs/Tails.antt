@@ -1,13 +1,13 @@
 -- A row's bytes word by word, as they are written.
 use mathlib.Core.List.{List, [], _∷_, _++_, map}
-use mathlib.Core.Path.{_≡_, refl, sym, ap, _∙_}
+use mathlib.Core.Path.{_≡_, sym, ap, _∙_}
 use Prim.Native.Nat.{ℕ, _+_, _<_, _≤_}
 use native.Mathlib.Omega.{arith}
 use lib.ListN.{length, drop, getD, set, length-set}
 use Rattle.std.proofs.shelf.Lists.{append-assoc, at-drop-all, at-drop-more, length-append}
 use Rattle.std.specs.Written.{decimal}
 use Rattle.text.proofs.Overwriting.{overwritten-append, overwritten-one}
-use Rattle.text.specs.Fields.{after-commas, comma, with-commas}
+use Rattle.text.specs.Fields.{after-commas, comma}
 use Rattle.text.specs.Parts.{overwritten}
 use Rattle.row.specs.Rows.{newline, row-bytes}
 

@@ -1,39 +1,44 @@
 //! Reading a row from a text.
 ghost use mathlib.Core.Path.{_≡_};
-ghost use Prim.Native.Nat.{ℕ, _+_, _≤_, _<_};
+ghost use Prim.Native.Nat.{_+_, _≤_, _<_, min};
 ghost use lib.ListN.{length, take, drop};
 ghost use Rattle.std.specs.Options.{Cases};
 ghost use Rattle.std.specs.declared.option.Option.the-variants.{Some, None};
 ghost use Rattle.text.specs.Fields.{fields-from};
 ghost use Rattle.row.specs.Reading.{field-words, fields-due, line-at, line-words, read-row, width-at};
 ghost use Rattle.std.specs.Vec.{made};
+ghost use Rattle.row.specs.Rows.{most-bytes, most-words};
 ghost use Rattle.row.specs.Trips.{Rewrites};
 ghost use Rattle.row.specs.Fronts.{front};
 use crate::faults::RowFault;
+use crate::limits::MOST_BYTES;
+use crate::limits::MOST_WORDS;
+use crate::limits::NEWLINE;
 use text::Fields;
 use text::find;
 use text::parse_word;
 
-pub const MOST_WORDS: usize = 64;
-
-const MOST_BYTES: usize = 704;
-
-const NEWLINE: u8 = b'\n';
+// Where the next 704 bytes from a place end, or the text before that.
+fn window_end(text: &[u8], place: usize) -> usize
+    ensures { λ r. ⌜ r ≡ min (length (now (text .entry))) (place + most-bytes) ⌝ }
+{
+    text.len().min(place.saturating_add(MOST_BYTES))
+}
 
 // Where the row at a place ends: its byte 10, among the next 704 bytes.
 fn row_end(text: &[u8], place: usize) -> Option<usize>
     ensures line { λ r. ⌜ Cases r (line-at (now (text .entry)) place ≡ None) (λ end. line-at (now (text .entry)) place ≡ Some (drop place (take end (now (text .entry))))) ⌝ }
-    ensures within { λ r. ⌜ Cases r (Unit {0}) (λ end. (place ≤ end) × (end < place + 704) × (end < length (now (text .entry)))) ⌝ }
+    ensures within { λ r. ⌜ Cases r (Unit {0}) (λ end. (place ≤ end) × (end < place + most-bytes) × (end < length (now (text .entry)))) ⌝ }
 {
-    let most = text.len().min(place.saturating_add(MOST_BYTES));
+    let most = window_end(text, place);
     find(&text[0..most], NEWLINE, place)
 }
 
 // How many fields the line from a place to the end of the text has, where so many words are due.
 fn count_fields(text: &[u8], place: usize, due: usize) -> usize
-    requires { ⌜ (place ≤ length (now text)) × (length (now text) < place + 704) ⌝ }
+    requires { ⌜ (place ≤ length (now text)) × (length (now text) < place + most-bytes) ⌝ }
     ensures value { λ r. ⌜ r ≡ length (fields-due due (drop place (now (text .entry)))) ⌝ }
-    ensures bound { λ r. ⌜ r ≤ 704 ⌝ }
+    ensures bound { λ r. ⌜ r ≤ most-bytes ⌝ }
 {
     if due == 0 && place == text.len() {
         return 0;
@@ -47,8 +52,8 @@ fn count_fields(text: &[u8], place: usize, due: usize) -> usize
 }
 
 // The words of the fields from a place on, at the front of as many as a row can have.
-fn parse_fields(text: &[u8], place: usize) -> Result<[u32; 64], RowFault>
-    requires { ⌜ length (fields-from (now text) (Some place)) ≤ 64 ⌝ }
+fn parse_fields(text: &[u8], place: usize) -> Result<[u32; MOST_WORDS], RowFault>
+    requires { ⌜ length (fields-from (now text) (Some place)) ≤ most-words ⌝ }
     ensures { λ r. ⌜ front (length (fields-from (now (text .entry)) (Some place))) r ≡ field-words (fields-from (now (text .entry)) (Some place)) ⌝ }
 {
     let mut fields = Fields::new(text, place);
@@ -65,8 +70,8 @@ fn parse_fields(text: &[u8], place: usize) -> Result<[u32; 64], RowFault>
 }
 
 // The words of the line from a place to the end of the text, where so many are due.
-fn line_words(text: &[u8], place: usize, due: usize) -> Result<[u32; 64], RowFault>
-    requires { ⌜ (due ≤ 64) × (place ≤ length (now text)) × (length (now text) < place + 704) ⌝ }
+fn line_words(text: &[u8], place: usize, due: usize) -> Result<[u32; MOST_WORDS], RowFault>
+    requires { ⌜ (due ≤ most-words) × (place ≤ length (now text)) × (length (now text) < place + most-bytes) ⌝ }
     ensures { λ r. ⌜ front due r ≡ line-words due (drop place (now (text .entry))) ⌝ }
 {
     let found = count_fields(text, place, due);
@@ -81,7 +86,7 @@ fn line_words(text: &[u8], place: usize, due: usize) -> Result<[u32; 64], RowFau
 
 // Reading, where the row handed in is not too wide.
 fn read_into(text: &[u8], place: usize, row: &mut [u32]) -> Result<usize, RowFault>
-    requires { ⌜ length (now row) ≤ 64 ⌝ }
+    requires { ⌜ length (now row) ≤ most-words ⌝ }
     ensures all { λ r. ⌜ (r, now (row .exit)) ≡ read-row (now (text .entry)) place (now (row .entry)) ⌝ }
     ensures again { λ r. ⌜ made r (λ end. Rewrites (now (text .entry)) place end (now (row .exit))) ⌝ }
 {

@@ -1,27 +1,25 @@
 //! Writing a row into a text.
 ghost use mathlib.Core.List.{_∷_};
 ghost use mathlib.Core.Path.{_≡_};
-ghost use Prim.Native.Nat.{ℕ, _+_, _≤_};
+ghost use Prim.Native.Nat.{_+_, _≤_};
 ghost use lib.ListN.{length};
 ghost use Rattle.std.specs.Vec.{made};
 ghost use Rattle.std.specs.Written.{decimal};
 ghost use Rattle.std.specs.declared.result.Result.the-variants.{Ok};
 ghost use Rattle.text.specs.Parts.{overwritten};
-ghost use Rattle.row.specs.Rows.{row-bytes};
+ghost use Rattle.row.specs.Rows.{most-words, row-bytes};
 ghost use Rattle.row.specs.Trips.{Rereads};
 ghost use Rattle.row.specs.Writing.{write-row};
 use crate::faults::RowFault;
-use crate::reading::MOST_WORDS;
+use crate::limits::MOST_WORDS;
+use crate::limits::NEWLINE;
+use text::COMMA;
 use text::word_len;
 use text::write_word;
 
-const COMMA: u8 = b',';
-
-const NEWLINE: u8 = b'\n';
-
 // How many bytes the row has: each word with the byte behind it, and byte 10 alone for no word.
 fn row_len(row: &[u32]) -> usize
-    requires { ⌜ length (now row) ≤ 64 ⌝ }
+    requires { ⌜ length (now row) ≤ most-words ⌝ }
     ensures { λ r. ⌜ r ≡ length (row-bytes (now (row .entry))) ⌝ }
 {
     let mut len = 0;
@@ -57,7 +55,7 @@ fn put_words(first: u32, rest: &[u32], text: &mut [u8]) -> usize
 
 // A row, which has room: how many bytes it has.
 fn put_row(row: &[u32], text: &mut [u8]) -> usize
-    requires { ⌜ (length (now row) ≤ 64) × (length (row-bytes (now row)) ≤ length (now text)) ⌝ }
+    requires { ⌜ (length (now row) ≤ most-words) × (length (row-bytes (now row)) ≤ length (now text)) ⌝ }
     ensures all { λ r. ⌜ (Ok r, now (text .exit)) ≡ write-row (now (row .entry)) (now (text .entry)) ⌝ }
     ensures again { λ r. ⌜ Rereads (now (row .entry)) (now (text .exit)) r ⌝ }
 {

@@ -1,19 +1,19 @@
 -- The digits of a word, as they are written: how many there are, and that they spell it.
 use mathlib.Core.Bool.{true}
-use mathlib.Core.List.{List, [], _∷_, _++_}
-use mathlib.Core.Path.{_≡_, refl, sym, ap, _∙_}
-use Prim.Native.Nat.{ℕ, _+_, _*_, _-_, _/_, _%_, _^_, _<_, _≤_}
+use mathlib.Core.List.{List}
+use mathlib.Core.Path.{_≡_, sym, ap, _∙_}
+use Prim.Native.Nat.{ℕ, _+_, _/_, _%_, _^_, _<_, _≤_}
 use native.Mathlib.Omega.{arith}
 use borrow.Author.Needs.{needs}
 use mathlib.Core.Logic.{⊎-elim}
 use lib.ListN.{length, getD, set}
 use Rattle.std.proofs.shelf.Decimals.{decimal-digit, decimal-step, decimal-some, decimal-value, digits-decimal, first-decimal, length-decimal-le, value-decimal}
 use Rattle.std.proofs.shelf.Lists.{length-push}
-use Rattle.std.proofs.shelf.Numerals.{Folds, Numerals, TellsDigits, numerals-by-fold}
+use Rattle.std.proofs.shelf.Numerals.{Numerals, numerals-by-fold}
 use Rattle.std.proofs.shelf.Tests.{cases-lt}
 use Rattle.std.specs.Written.{decimal}
 use Rattle.text.specs.Parts.{overwritten}
-use Rattle.text.specs.Words.{Spells, all-digits, is-digit, largest, value, value-after}
+use Rattle.text.specs.Words.{Spells, all-digits, value, value-after}
 use Rattle.text.proofs.Overwriting.{overwritten-one, overwritten-push}
 
 pub length-digit : (n : ℕ) → n < 10 → length (decimal n) ≡ 1

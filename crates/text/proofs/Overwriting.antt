@@ -1,11 +1,11 @@
 -- Bytes written into a text, one part after another.
 use mathlib.Core.List.{List, [], _∷_, _++_}
 use mathlib.Core.Path.{_≡_, refl, sym, ap, _∙_}
-use Prim.Native.Nat.{ℕ, _+_, _-_, _<_, _≤_}
+use Prim.Native.Nat.{ℕ, _+_, _<_, _≤_}
 use native.Mathlib.Numerals.{add-one}
 use native.Mathlib.Omega.{arith}
 use lib.Dec.{leb}
-use lib.ListN.{length, take, drop, set}
+use lib.ListN.{length, set}
 use lib.Seq.{paste}
 use Rattle.std.proofs.shelf.Edits.{length-paste, paste-all, paste-paste}
 use Rattle.std.proofs.shelf.Lists.{length-append, set-split}

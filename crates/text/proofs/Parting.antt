@@ -1,5 +1,5 @@
 -- A line parted into its fields: what the first is, that the parts make the line, and that no other fields do.
-use mathlib.Core.Bool.{Bool, true, false, cond}
+use mathlib.Core.Bool.{Bool, true, false}
 use mathlib.Core.List.{List, [], _∷_, _++_}
 use mathlib.Core.Path.{_≡_, refl, sym, ap, ap₂, _∙_}
 use Prim.Native.Nat.{ℕ, zero, suc, _+_, _-_, _<_, _≤_}
@@ -14,7 +14,7 @@ use Rattle.std.specs.declared.option.Option.the-variants.{Some, None}
 use Rattle.std.specs.shelf.Lists.{All}
 use Rattle.text.specs.Fields.{Parted, after-commas, comma, fields, fields-from, onto-first, with-commas}
 use Rattle.text.specs.Parts.{first-from, position}
-use Rattle.text.proofs.Search.{position-append, position-at, position-past}
+use Rattle.text.proofs.Search.{found, here, later, not-found, position-append, position-past}
 
 fields-comma : (b : ℕ) (bs : List ℕ) → eqb b comma ≡ true → fields (b ∷ bs) ≡ [] ∷ fields bs
 fields-comma b bs t = rw (t, fields)
@@ -25,23 +25,16 @@ fields-byte b bs t = rw (t, fields)
 -- the line up to its first comma, and the fields behind it
 pub fields-cut : (line : List ℕ) (i : ℕ) → position comma line ≡ Some i → fields line ≡ take i line ∷ fields (drop (suc i) line)
 fields-cut [] i e = let z : _≡_ {A = ℕ} 0 1 = cc in absurd (omega arith)
-fields-cut (b ∷ bs) i e = go (eqb b comma) refl (position comma bs) refl (fields-cut bs)
-  where
-    go : (t : Bool) → eqb b comma ≡ t → (o : Option ℕ) → position comma bs ≡ o → ((j : ℕ) → position comma bs ≡ Some j → fields bs ≡ take j bs ∷ fields (drop (suc j) bs)) → fields (b ∷ bs) ≡ take i (b ∷ bs) ∷ fields (drop (suc i) (b ∷ bs))
-    go true t o p ih = let z : i ≡ 0 = cc (position-at comma b bs t) in rw z (fields-comma b bs t)
-    go false t None p ih = let z : _≡_ {A = ℕ} 0 1 = cc (position-past comma b bs t ∙ ap (mapped suc) p) in absurd (omega arith)
-    go false t (Some j) p ih =
-        let z : i ≡ suc j = cc (position-past comma b bs t ∙ ap (mapped suc) p) in
-        rw z (fields-byte b bs t ∙ ap (onto-first b) (ih j p))
+fields-cut (b ∷ bs) i e = elim (found comma b bs i e) [
+  | here t z ↦ rw z (fields-comma b bs t)
+  | later j t p z ↦ rw z (fields-byte b bs t ∙ ap (onto-first b) (fields-cut bs j p))
+]
 
 pub fields-last : (line : List ℕ) → position comma line ≡ None → fields line ≡ line ∷ []
 fields-last [] e = refl
-fields-last (b ∷ bs) e = go (eqb b comma) refl (position comma bs) refl (fields-last bs)
-  where
-    go : (t : Bool) → eqb b comma ≡ t → (o : Option ℕ) → position comma bs ≡ o → (position comma bs ≡ None → fields bs ≡ bs ∷ []) → fields (b ∷ bs) ≡ (b ∷ bs) ∷ []
-    go true t o p ih = let z : _≡_ {A = ℕ} 0 1 = cc (position-at comma b bs t) in absurd (omega arith)
-    go false t (Some j) p ih = let z : _≡_ {A = ℕ} 0 1 = cc (position-past comma b bs t ∙ ap (mapped suc) p) in absurd (omega arith)
-    go false t None p ih = fields-byte b bs t ∙ ap (onto-first b) (ih p)
+fields-last (b ∷ bs) e =
+    let no = not-found comma b bs e in
+    fields-byte b bs (no .0) ∙ ap (onto-first b) (fields-last bs (no .1))
 
 -- the parts make the line
 fields-some : (line : List ℕ) → 0 < length (fields line)
@@ -107,6 +100,9 @@ fields-unique [] some apart = absurd (omega arith)
 fields-unique (f ∷ []) some apart = ap fields (append-nil f) ∙ fields-last f (apart .0)
 fields-unique (f ∷ (g ∷ fs)) some apart =
     fields-append f (with-commas (g ∷ fs)) (apart .0) ∙ ap (λ (gs : List (List ℕ)). f ∷ gs) (fields-unique (g ∷ fs) (omega arith) (apart .1))
+
+pub parted-only : (line : List ℕ) (fs : List (List ℕ)) → Parted line fs → fs ≡ fields line
+parted-only line fs p = sym (fields-unique fs (p .some) (p .apart)) ∙ ap fields (p .whole)
 
 -- the fields from a place on, one by one
 pub from-within : (text : List ℕ) (place : ℕ) → place ≤ length text → fields-from text (Some place) ≡ fields (drop place text)

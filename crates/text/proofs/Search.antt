@@ -1,5 +1,5 @@
 -- Where the first such byte stands.
-use mathlib.Core.Bool.{Bool, true, false, cond}
+use mathlib.Core.Bool.{Bool, true, false}
 use mathlib.Core.List.{List, [], _∷_, _++_}
 use mathlib.Core.Path.{_≡_, refl, sym, ap, _∙_}
 use Prim.Native.Nat.{ℕ, zero, suc, _+_, _<_, _≤_}
@@ -23,78 +23,75 @@ position-at byte b bs t = rw (t, position)
 pub position-past : (byte b : ℕ) (bs : List ℕ) → eqb b byte ≡ false → position byte (b ∷ bs) ≡ mapped suc (position byte bs)
 position-past byte b bs t = rw (t, position)
 
+-- where it stands in a list, seen from the first byte
+pub data Found (byte b : ℕ) (bs : List ℕ) (n : ℕ) : Type 0 where
+  here : eqb b byte ≡ true → n ≡ 0 → Found byte b bs n
+  later : (m : ℕ) → eqb b byte ≡ false → position byte bs ≡ Some m → n ≡ suc m → Found byte b bs n
+
+pub found : (byte b : ℕ) (bs : List ℕ) (n : ℕ) → position byte (b ∷ bs) ≡ Some n → Found byte b bs n
+found byte b bs n e = go (eqb b byte) refl (position byte bs) refl
+  where
+    go : (t : Bool) → eqb b byte ≡ t → (o : Option ℕ) → position byte bs ≡ o → Found byte b bs n
+    go true t o p = here t (cc (position-at byte b bs t))
+    go false t None p = let z : _≡_ {A = ℕ} 0 1 = cc (position-past byte b bs t ∙ ap (mapped suc) p) in absurd (omega arith)
+    go false t (Some m) p = later m t p (cc (position-past byte b bs t ∙ ap (mapped suc) p))
+
+pub not-found : (byte b : ℕ) (bs : List ℕ) → position byte (b ∷ bs) ≡ None → (eqb b byte ≡ false) × (position byte bs ≡ None)
+not-found byte b bs e = go (eqb b byte) refl (position byte bs) refl
+  where
+    go : (t : Bool) → eqb b byte ≡ t → (o : Option ℕ) → position byte bs ≡ o → (eqb b byte ≡ false) × (position byte bs ≡ None)
+    go true t o p = let z : _≡_ {A = ℕ} 0 1 = cc (position-at byte b bs t) in absurd (omega arith)
+    go false t (Some m) p = let z : _≡_ {A = ℕ} 0 1 = cc (position-past byte b bs t ∙ ap (mapped suc) p) in absurd (omega arith)
+    go false t None p = (t, p)
+
 -- behind bytes that are others
 pub position-append : (byte : ℕ) (xs rest : List ℕ) → position byte xs ≡ None → position byte (xs ++ (byte ∷ rest)) ≡ Some (length xs)
 position-append byte [] rest e = position-at byte byte rest (eq-eqb byte byte refl)
-position-append byte (b ∷ bs) rest e = go (eqb b byte) refl (position byte bs) refl (position-append byte bs rest)
-  where
-    go : (t : Bool) → eqb b byte ≡ t → (o : Option ℕ) → position byte bs ≡ o → (position byte bs ≡ None → position byte (bs ++ (byte ∷ rest)) ≡ Some (length bs)) → position byte ((b ∷ bs) ++ (byte ∷ rest)) ≡ Some (length (b ∷ bs))
-    go true t o p ih = let z : _≡_ {A = ℕ} 0 1 = cc (position-at byte b bs t) in absurd (omega arith)
-    go false t (Some j) p ih = let z : _≡_ {A = ℕ} 0 1 = cc (position-past byte b bs t ∙ ap (mapped suc) p) in absurd (omega arith)
-    go false t None p ih = position-past byte b (bs ++ (byte ∷ rest)) t ∙ ap (mapped suc) (ih p)
+position-append byte (b ∷ bs) rest e =
+    let no = not-found byte b bs e in
+    position-past byte b (bs ++ (byte ∷ rest)) (no .0) ∙ ap (mapped suc) (position-append byte bs rest (no .1))
 
 -- where it is in neither of two parts
 pub position-neither : (byte : ℕ) (xs ys : List ℕ) → position byte xs ≡ None → position byte ys ≡ None → position byte (xs ++ ys) ≡ None
 position-neither byte [] ys e f = f
-position-neither byte (b ∷ bs) ys e f = go (eqb b byte) refl (position byte bs) refl (λ p. position-neither byte bs ys p f)
-  where
-    go : (t : Bool) → eqb b byte ≡ t → (o : Option ℕ) → position byte bs ≡ o → (position byte bs ≡ None → position byte (bs ++ ys) ≡ None) → position byte ((b ∷ bs) ++ ys) ≡ None
-    go true t o p ih = let z : _≡_ {A = ℕ} 0 1 = cc (position-at byte b bs t) in absurd (omega arith)
-    go false t (Some j) p ih = let z : _≡_ {A = ℕ} 0 1 = cc (position-past byte b bs t ∙ ap (mapped suc) p) in absurd (omega arith)
-    go false t None p ih = position-past byte b (bs ++ ys) t ∙ ap (mapped suc) (ih p)
+position-neither byte (b ∷ bs) ys e f =
+    let no = not-found byte b bs e in
+    position-past byte b (bs ++ ys) (no .0) ∙ ap (mapped suc) (position-neither byte bs ys (no .1) f)
 
 -- it stands right behind the bytes before it
 pub position-found : (byte : ℕ) (xs : List ℕ) (n : ℕ) → position byte xs ≡ Some n → (n < length xs) × (take (suc n) xs ≡ take n xs ++ (byte ∷ []))
 position-found byte [] n e = let z : _≡_ {A = ℕ} 0 1 = cc in absurd (omega arith)
-position-found byte (b ∷ bs) n e = go (eqb b byte) refl (position byte bs) refl (position-found byte bs)
-  where
-    go : (t : Bool) → eqb b byte ≡ t → (o : Option ℕ) → position byte bs ≡ o → ((m : ℕ) → position byte bs ≡ Some m → (m < length bs) × (take (suc m) bs ≡ take m bs ++ (byte ∷ []))) → (n < length (b ∷ bs)) × (take (suc n) (b ∷ bs) ≡ take n (b ∷ bs) ++ (byte ∷ []))
-    go true t o p ih =
-        let z : n ≡ 0 = cc (position-at byte b bs t) in
-        (omega arith, rw z (ap (λ (x : ℕ). x ∷ []) (eqb-true b byte t)))
-    go false t None p ih = let z : _≡_ {A = ℕ} 0 1 = cc (position-past byte b bs t ∙ ap (mapped suc) p) in absurd (omega arith)
-    go false t (Some m) p ih =
-        let z : n ≡ suc m = cc (position-past byte b bs t ∙ ap (mapped suc) p) in
-        let h = ih m p in
-        (omega arith, rw z (ap (λ (ys : List ℕ). b ∷ ys) (h .1)))
+position-found byte (b ∷ bs) n e = elim (found byte b bs n e) [
+  | here t z ↦ (omega arith, rw z (ap (λ (x : ℕ). x ∷ []) (eqb-true b byte t)))
+  | later m t p z ↦ let h = position-found byte bs m p in (omega (arith, h .0), rw z (ap (λ (ys : List ℕ). b ∷ ys) (h .1)))
+]
 
 -- in the front of a list: where it stands before the cut, and not where it stands behind
 pub position-within : (byte : ℕ) (xs : List ℕ) (n k : ℕ) → position byte xs ≡ Some n → n < k → position byte (take k xs) ≡ Some n
 position-within byte xs n zero e h = absurd (omega arith)
 position-within byte [] n (suc k) e h = e
-position-within byte (b ∷ bs) n (suc k) e h = go (eqb b byte) refl (position byte bs) refl (λ m. position-within byte bs m k)
-  where
-    go : (t : Bool) → eqb b byte ≡ t → (o : Option ℕ) → position byte bs ≡ o → ((m : ℕ) → position byte bs ≡ Some m → m < k → position byte (take k bs) ≡ Some m) → position byte (b ∷ take k bs) ≡ Some n
-    go true t o p ih = position-at byte b (take k bs) t ∙ sym (position-at byte b bs t) ∙ e
-    go false t None p ih = let z : _≡_ {A = ℕ} 0 1 = cc (position-past byte b bs t ∙ ap (mapped suc) p) in absurd (omega arith)
-    go false t (Some m) p ih =
-        let z : n ≡ suc m = cc (position-past byte b bs t ∙ ap (mapped suc) p) in
-        position-past byte b (take k bs) t ∙ ap (mapped suc) (ih m p (omega arith)) ∙ ap Some (sym z)
+position-within byte (b ∷ bs) n (suc k) e h = elim (found byte b bs n e) [
+  | here t z ↦ position-at byte b (take k bs) t ∙ ap Some (sym z)
+  | later m t p z ↦ position-past byte b (take k bs) t ∙ ap (mapped suc) (position-within byte bs m k p (omega arith)) ∙ ap Some (sym z)
+]
 
 pub position-beyond : (byte : ℕ) (xs : List ℕ) (n k : ℕ) → position byte xs ≡ Some n → k ≤ n → position byte (take k xs) ≡ None
 position-beyond byte xs n zero e h = refl
 position-beyond byte [] n (suc k) e h = refl
-position-beyond byte (b ∷ bs) n (suc k) e h = go (eqb b byte) refl (position byte bs) refl (λ m. position-beyond byte bs m k)
-  where
-    go : (t : Bool) → eqb b byte ≡ t → (o : Option ℕ) → position byte bs ≡ o → ((m : ℕ) → position byte bs ≡ Some m → k ≤ m → position byte (take k bs) ≡ None) → position byte (b ∷ take k bs) ≡ None
-    go true t o p ih = let z : n ≡ 0 = cc (position-at byte b bs t) in absurd (omega arith)
-    go false t None p ih = let z : _≡_ {A = ℕ} 0 1 = cc (position-past byte b bs t ∙ ap (mapped suc) p) in absurd (omega arith)
-    go false t (Some m) p ih =
-        let z : n ≡ suc m = cc (position-past byte b bs t ∙ ap (mapped suc) p) in
-        position-past byte b (take k bs) t ∙ ap (mapped suc) (ih m p (omega arith))
+position-beyond byte (b ∷ bs) n (suc k) e h = elim (found byte b bs n e) [
+  | here t z ↦ absurd (omega arith)
+  | later m t p z ↦ position-past byte b (take k bs) t ∙ ap (mapped suc) (position-beyond byte bs m k p (omega arith))
+]
 
 pub position-back : (byte : ℕ) (xs : List ℕ) (n k : ℕ) → position byte (take k xs) ≡ Some n → position byte xs ≡ Some n
 position-back byte xs n zero e = let z : _≡_ {A = ℕ} 0 1 = cc in absurd (omega arith)
 position-back byte [] n (suc k) e = e
-position-back byte (b ∷ bs) n (suc k) e = go (eqb b byte) refl (position byte (take k bs)) refl (λ m. position-back byte bs m k)
-  where
-    go : (t : Bool) → eqb b byte ≡ t → (o : Option ℕ) → position byte (take k bs) ≡ o → ((m : ℕ) → position byte (take k bs) ≡ Some m → position byte bs ≡ Some m) → position byte (b ∷ bs) ≡ Some n
-    go true t o p ih = position-at byte b bs t ∙ sym (position-at byte b (take k bs) t) ∙ e
-    go false t None p ih = let z : _≡_ {A = ℕ} 0 1 = cc (position-past byte b (take k bs) t ∙ ap (mapped suc) p) in absurd (omega arith)
-    go false t (Some m) p ih =
-        let z : n ≡ suc m = cc (position-past byte b (take k bs) t ∙ ap (mapped suc) p) in
-        position-past byte b bs t ∙ ap (mapped suc) (ih m p) ∙ ap Some (sym z)
+position-back byte (b ∷ bs) n (suc k) e = elim (found byte b (take k bs) n e) [
+  | here t z ↦ position-at byte b bs t ∙ ap Some (sym z)
+  | later m t p z ↦ position-past byte b bs t ∙ ap (mapped suc) (position-back byte bs m k p) ∙ ap Some (sym z)
+]
 
+-- the steps of the search
 module _ (byte : ℕ) (text : List ℕ) (at : ℕ) where
   pub first-here : at < length text → getD text at 0 ≡ byte → first-from byte text at ≡ Some at
   first-here h e =

@@ -9,7 +9,8 @@ ghost use Rattle.std.specs.declared.option.Option.the-variants.{Some};
 ghost use Rattle.text.specs.Fields.{Parted, fields-from, next-place};
 use crate::places::find;
 
-const COMMA: u8 = b',';
+/// The byte that parts fields.
+pub const COMMA: u8 = b',';
 
 /// A part of the caller's text, and the place where it begins there.
 #[derive(Clone, Copy)]
@@ -32,6 +33,7 @@ impl<'a> Fields<'a> {
         ensures text { λ r. ⌜ now (r .text) ≡ now (text .entry) ⌝ }
         ensures fields { λ r. ⌜ fields-from (now (r .text)) (r .next) ≡ fields-from (now (text .entry)) (Some place) ⌝ }
         ensures parted { λ r. ⌜ (place ≤ length (now (text .entry)) → Parted (drop place (now (text .entry))) (fields-from (now (r .text)) (r .next))) ⌝ }
+        ensures only { λ r. ⌜ (place ≤ length (now (text .entry)) → (fs : List (List ℕ)) → Parted (drop place (now (text .entry))) fs → fs ≡ fields-from (now (r .text)) (r .next)) ⌝ }
     {
         if place > text.len() {
             return Fields { text, next: None };
@@ -39,6 +41,32 @@ impl<'a> Fields<'a> {
         Fields {
             text,
             next: Some(place),
+        }
+    }
+
+    // The field at the place that is next: the part up to the next comma, or to the end of the text.
+    fn cut_field(&mut self, place: usize) -> Field<'a>
+        requires { ⌜ now self .next ≡ Some place ⌝ }
+        ensures text { λ _. ⌜ now (now (self .exit) .text) ≡ now (now (self .entry) .text) ⌝ }
+        ensures field { λ f. ⌜ fields-from (now (now (self .entry) .text)) (now (self .entry) .next) ≡ now (f .text) ∷ fields-from (now (now (self .exit) .text)) (now (self .exit) .next) ⌝ }
+        ensures place { λ f. ⌜ (f .place ≡ place) × (now (f .text) ≡ take (length (now (f .text))) (drop place (now (now (self .entry) .text)))) ⌝ }
+        ensures next { λ _. ⌜ now (self .exit) .next ≡ next-place (now (now (self .entry) .text)) (now (self .entry) .next) ⌝ }
+    {
+        match find(self.text, COMMA, place) {
+            Some(end) => {
+                self.next = Some(end + 1);
+                Field {
+                    text: &self.text[place..end],
+                    place,
+                }
+            }
+            None => {
+                self.next = None;
+                Field {
+                    text: &self.text[place..],
+                    place,
+                }
+            }
         }
     }
 
@@ -50,21 +78,6 @@ impl<'a> Fields<'a> {
         ensures next { λ _. ⌜ now (self .exit) .next ≡ next-place (now (now (self .entry) .text)) (now (self .entry) .next) ⌝ }
     {
         let place = self.next?;
-        match find(self.text, COMMA, place) {
-            Some(end) => {
-                self.next = Some(end + 1);
-                Some(Field {
-                    text: &self.text[place..end],
-                    place,
-                })
-            }
-            None => {
-                self.next = None;
-                Some(Field {
-                    text: &self.text[place..],
-                    place,
-                })
-            }
-        }
+        Some(self.cut_field(place))
     }
 }

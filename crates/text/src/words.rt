@@ -73,8 +73,8 @@ fn put_digits(word: u32, text: &mut [u8], place: usize) -> usize
     last + 1
 }
 
-/// Writes the word's digits at a place: the place after them, or nothing where they do not fit.
-pub fn write_word(word: u32, text: &mut [u8], place: usize) -> Option<usize>
+// The word's digits at a place, if they have room there.
+fn write_digits(word: u32, text: &mut [u8], place: usize) -> Option<usize>
     ensures all { λ r. ⌜ (r, now (text .exit)) ≡ put (decimal word) (now (text .entry)) place ⌝ }
     ensures digits { λ _. ⌜ Spells (decimal word) word ⌝ }
 {
@@ -82,4 +82,12 @@ pub fn write_word(word: u32, text: &mut [u8], place: usize) -> Option<usize>
         return None;
     }
     Some(put_digits(word, text, place))
+}
+
+/// Writes the word's digits at a place: the place after them, or nothing where they do not fit.
+pub fn write_word(word: u32, text: &mut [u8], place: usize) -> Option<usize>
+    ensures all { λ r. ⌜ (r, now (text .exit)) ≡ put (decimal word) (now (text .entry)) place ⌝ }
+    ensures digits { λ _. ⌜ Spells (decimal word) word ⌝ }
+{
+    write_digits(word, text, place)
 }

@@ -1,25 +1,23 @@
 -- The rows come out as they went in.
-use mathlib.Core.Bool.{Bool, true, false, cond}
+use mathlib.Core.Bool.{Bool, true, false}
 use mathlib.Core.List.{List, [], _∷_, _++_}
 use mathlib.Core.Logic.{_⊎_, inl, inr, ⊎-elim}
 use mathlib.Core.Path.{_≡_, refl, sym, ap, ap₂, _∙_}
-use Prim.Native.Nat.{ℕ, zero, suc, _+_, _-_, _<_, _≤_}
+use Prim.Native.Nat.{ℕ, suc, _+_, _<_, _≤_}
 use native.Mathlib.Omega.{arith}
 use lib.Dec.{eqb, ltb}
-use lib.ListN.{length, take, drop}
+use lib.ListN.{length, take}
 use Rattle.std.proofs.shelf.Lists.{append-assoc, take-all}
-use Rattle.std.proofs.shelf.Tests.{cond-true, cond-false, lt-ltb, le-ltb}
-use Rattle.std.specs.Options.{mapped}
-use Rattle.std.specs.declared.option.Option.{Option}
-use Rattle.std.specs.declared.option.Option.the-variants.{Some, None}
+use Rattle.std.proofs.shelf.Tests.{both-ways, cond-true, cond-false, lt-ltb, le-ltb}
+use Rattle.std.specs.declared.option.Option.the-variants.{Some}
 use Rattle.std.specs.declared.result.Result.{Result}
 use Rattle.std.specs.declared.result.Result.the-variants.{Ok, Err}
 use Rattle.std.specs.shelf.Lists.{All, joined}
-use Rattle.text.proofs.Search.{position-at, position-past}
+use Rattle.text.proofs.Search.{found, here, later, position-at, position-past}
 use Rattle.text.specs.Fields.{onto-first}
 use Rattle.text.specs.Parts.{position}
 use Rattle.row.proofs.Rewriting.{row-again}
-use Rattle.row.specs.Reading.{line-at, line-words, row-at, row-of, width-at}
+use Rattle.row.specs.Reading.{line-at, row-at, row-of, width-at}
 use Rattle.row.specs.Rows.{newline, row-bytes}
 use Rattle.row.specs.declared.faults.RowFault.{RowFault}
 use Rattle.row.specs.declared.faults.RowFault.the-variants.{TooWide}
@@ -36,11 +34,13 @@ Ended line = (n : ℕ) → position newline line ≡ Some n → length line ≡ 
 onto-ended : (b : ℕ) → eqb b newline ≡ false → (ls : List (List ℕ)) → All Ended ls → All Ended (onto-first b ls)
 unfolding Ended
 onto-ended b t [] h = ((λ n e. let z : _≡_ {A = ℕ} 0 1 = cc (position-past newline b [] t) in absurd (omega arith)), tt)
-onto-ended b t (l ∷ ls) h = ((λ n e. go n e (position newline l) refl (h .0)), h .1)
-  where
-    go : (n : ℕ) → position newline (b ∷ l) ≡ Some n → (o : Option ℕ) → position newline l ≡ o → Ended l → length (b ∷ l) ≡ suc n
-    go n e None p k = let z : _≡_ {A = ℕ} 0 1 = cc (position-past newline b l t ∙ ap (mapped suc) p) in absurd (omega arith)
-    go n e (Some m) p k = let z : n ≡ suc m = cc (position-past newline b l t ∙ ap (mapped suc) p) in omega (arith, k m p)
+onto-ended b t (l ∷ ls) h = (
+  (λ n e. elim (found newline b l n e) [
+    | here s z ↦ absurd (both-ways (eqb b newline) t s)
+    | later m s p z ↦ omega (arith, h .0 m p)
+  ]),
+  h .1,
+)
 
 lines-ended : (text : List ℕ) → All Ended (lines text)
 unfolding Ended

@@ -1,9 +1,9 @@
 -- The first line of a text: reading a row looks at nothing else.
-use mathlib.Core.Bool.{Bool, true, false, cond}
-use mathlib.Core.List.{List, [], _∷_, _++_}
+use mathlib.Core.Bool.{true, false}
+use mathlib.Core.List.{List, [], _∷_}
 use mathlib.Core.Logic.{⊎-elim}
 use mathlib.Core.Path.{_≡_, refl, sym, ap, _∙_}
-use Prim.Native.Nat.{ℕ, zero, suc, _+_, _-_, _<_, _≤_}
+use Prim.Native.Nat.{ℕ, suc, _+_, _<_, _≤_}
 use native.Mathlib.Omega.{arith}
 use lib.Dec.{eqb}
 use lib.ListN.{length, take, drop}
@@ -12,7 +12,7 @@ use Rattle.std.proofs.shelf.Tests.{cases-lt}
 use Rattle.std.specs.Options.{mapped}
 use Rattle.std.specs.declared.option.Option.{Option}
 use Rattle.std.specs.declared.option.Option.the-variants.{Some, None}
-use Rattle.text.proofs.Search.{position-at, position-back, position-beyond, position-found, position-past, position-within}
+use Rattle.text.proofs.Search.{found, here, later, not-found, position-back, position-beyond, position-found, position-within}
 use Rattle.text.specs.Fields.{onto-first}
 use Rattle.text.specs.Parts.{position}
 use Rattle.row.specs.Reading.{line-at, line-length}
@@ -28,30 +28,18 @@ lines-byte b bs t = rw (t, lines)
 -- the line up to its byte 10, and the lines behind it
 lines-cut : (text : List ℕ) (n : ℕ) → position newline text ≡ Some n → lines text ≡ take (suc n) text ∷ lines (drop (suc n) text)
 lines-cut [] n e = let z : _≡_ {A = ℕ} 0 1 = cc in absurd (omega arith)
-lines-cut (b ∷ bs) n e = go (eqb b newline) refl (position newline bs) refl (lines-cut bs)
-  where
-    go : (t : Bool) → eqb b newline ≡ t → (o : Option ℕ) → position newline bs ≡ o → ((m : ℕ) → position newline bs ≡ Some m → lines bs ≡ take (suc m) bs ∷ lines (drop (suc m) bs)) → lines (b ∷ bs) ≡ take (suc n) (b ∷ bs) ∷ lines (drop (suc n) (b ∷ bs))
-    go true t o p ih = let z : n ≡ 0 = cc (position-at newline b bs t) in rw z (lines-end b bs t)
-    go false t None p ih = let z : _≡_ {A = ℕ} 0 1 = cc (position-past newline b bs t ∙ ap (mapped suc) p) in absurd (omega arith)
-    go false t (Some m) p ih =
-        let z : n ≡ suc m = cc (position-past newline b bs t ∙ ap (mapped suc) p) in
-        rw z (lines-byte b bs t ∙ ap (onto-first b) (ih m p))
+lines-cut (b ∷ bs) n e = elim (found newline b bs n e) [
+  | here t z ↦ rw z (lines-end b bs t)
+  | later m t p z ↦ rw z (lines-byte b bs t ∙ ap (onto-first b) (lines-cut bs m p))
+]
 
 -- a text with no byte 10 is one line
-none-parts : (b : ℕ) (bs : List ℕ) → position newline (b ∷ bs) ≡ None → (eqb b newline ≡ false) × (position newline bs ≡ None)
-none-parts b bs e = go (eqb b newline) refl (position newline bs) refl
-  where
-    go : (t : Bool) → eqb b newline ≡ t → (o : Option ℕ) → position newline bs ≡ o → (eqb b newline ≡ false) × (position newline bs ≡ None)
-    go true t o p = let z : _≡_ {A = ℕ} 0 1 = cc (position-at newline b bs t) in absurd (omega arith)
-    go false t (Some m) p = let z : _≡_ {A = ℕ} 0 1 = cc (position-past newline b bs t ∙ ap (mapped suc) p) in absurd (omega arith)
-    go false t None p = (t, p)
-
 lines-last : (text : List ℕ) → 0 < length text → position newline text ≡ None → lines text ≡ text ∷ []
 lines-last [] h e = absurd (omega arith)
-lines-last (b ∷ []) h e = lines-byte b [] (none-parts b [] e .0)
+lines-last (b ∷ []) h e = lines-byte b [] (not-found newline b [] e .0)
 lines-last (b ∷ (c ∷ cs)) h e =
-    let parts = none-parts b (c ∷ cs) e in
-    lines-byte b (c ∷ cs) (parts .0) ∙ ap (onto-first b) (lines-last (c ∷ cs) (omega arith) (parts .1))
+    let no = not-found newline b (c ∷ cs) e in
+    lines-byte b (c ∷ cs) (no .0) ∙ ap (onto-first b) (lines-last (c ∷ cs) (omega arith) (no .1))
 
 -- The first line, the others, and that a row is read alike from the line and from the text.
 pub record FirstLine (text : List ℕ) : Type 0 where

@@ -9,20 +9,18 @@ use lib.Dec.{eqb, ltb}
 use lib.ListN.{length, take}
 use Rattle.std.specs.declared.option.Option.{Option}
 use Rattle.std.specs.declared.option.Option.the-variants.{Some, None}
-use Rattle.std.specs.declared.result.Result.{Result}
 use Rattle.std.specs.declared.result.Result.the-variants.{Ok, Err}
 use Rattle.std.specs.shelf.Lists.{joined}
 use Rattle.text.specs.Fields.{onto-first}
 use Rattle.row.specs.Reading.{row-at, width-at}
 use Rattle.row.specs.Rows.{newline, row-bytes}
-use Rattle.row.specs.declared.faults.RowFault.{RowFault}
 use Rattle.trace.specs.Faults.{layer-of, number-of, place-of}
 use Rattle.trace.specs.declared.faults.Fault.{Fault}
 use Rattle.trace.specs.declared.faults.Fault.the-variants.{Row, Trace}
 
 -- a trace has at most so many bytes
-abbrev pub most-bytes : ℕ
-most-bytes = 32768
+abbrev pub longest : ℕ
+longest = 32768
 
 -- a text line by line, each line with its byte 10, which only the last may lack
 abbrev pub lines : List ℕ → List (List ℕ)
@@ -47,7 +45,7 @@ output-from width rows (line ∷ rest) = elim (row-at line 0 width) [
 -- The output for a trace, or for one that cannot be read. The first row decides how many words each has.
 abbrev pub output : Option (List ℕ) → List ℕ
 output None = refusal Trace 0
-output (Some trace) = cond (ltb most-bytes (length trace)) (refusal Trace 0) (output-from (width-at trace 0) 0 (lines trace))
+output (Some trace) = cond (ltb longest (length trace)) (refusal Trace 0) (output-from (width-at trace 0) 0 (lines trace))
 
 -- The rows come out as they went in: the output is the first lines of the trace and, unless those are all, a refusal that counts them.
 pub record Echoes (trace out : List ℕ) : Type 0 where

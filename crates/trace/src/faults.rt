@@ -16,8 +16,8 @@ pub enum Fault {
 pub impl From<RowFault> for Fault as FaultFromRow {
     ghost converts = { λ e r. r ≡ Row e };
 
-    fn from(fault: RowFault) -> Fault {
-        Fault::Row(fault)
+    fn from(below: RowFault) -> Fault {
+        Fault::Row(below)
     }
 }
 

@@ -1,15 +1,16 @@
 //! The output for a trace.
-ghost use mathlib.Core.List.{_++_};
+ghost use mathlib.Core.List.{[], _∷_, _++_};
 ghost use mathlib.Core.Path.{_≡_};
 ghost use Prim.Native.Nat.{_≤_};
 ghost use lib.ListN.{length, take};
 ghost use Rattle.row.specs.Reading.{width-at};
-ghost use Rattle.row.specs.Rows.{row-bytes};
+ghost use Rattle.row.specs.Rows.{most-bytes, most-words, row-bytes};
 ghost use Rattle.std.specs.Of.Vec.{vec-items};
 ghost use Rattle.std.specs.Options.{mapped};
 ghost use Rattle.std.specs.Vec.{made};
 ghost use Rattle.std.specs.declared.option.Option.the-variants.{Some};
-ghost use Rattle.trace.specs.Output.{Echoed, Echoes, lines, output, output-from, refusal};
+ghost use Rattle.trace.specs.Faults.{layer-of, number-of, place-of};
+ghost use Rattle.trace.specs.Output.{Echoed, Echoes, lines, longest, output, output-from, refusal};
 use crate::faults::Fault;
 use crate::faults::FaultFromRow;
 use std::alloc::AllocError;
@@ -18,12 +19,9 @@ use std::alloc::Global;
 // The longest trace.
 const MOST_BYTES: usize = 32768;
 
-// The longest row: 64 words of ten digits, 63 commas and byte 10.
-const ROW_BYTES: usize = 704;
-
 // A row that is not too wide, at the front of a text that holds the longest: how many bytes it has.
 fn row_text(row: &[u32], text: &mut [u8]) -> usize
-    requires { ⌜ (length (now row) ≤ 64) × (704 ≤ length (now text)) ⌝ }
+    requires { ⌜ (length (now row) ≤ most-words) × (most-bytes ≤ length (now text)) ⌝ }
     ensures front { λ r. ⌜ take r (now (text .exit)) ≡ row-bytes (now (row .entry)) ⌝ }
     ensures bound { λ r. ⌜ r ≤ length (now (text .exit)) ⌝ }
 {
@@ -32,12 +30,19 @@ fn row_text(row: &[u32], text: &mut [u8]) -> usize
 
 // One row more, which is not too wide.
 fn append_row(out: &mut Vec<u8>, row: &[u32]) -> Result<(), AllocError>
-    requires { ⌜ length (now row) ≤ 64 ⌝ }
+    requires { ⌜ length (now row) ≤ most-words ⌝ }
     ensures { λ r. ⌜ made r (λ _. vec-items (now (out .exit)) ≡ vec-items (now (out .entry)) ++ row-bytes (now (row .entry))) ⌝ }
 {
-    let mut text = [0; ROW_BYTES];
+    let mut text = [0; row::MOST_BYTES];
     let len = row_text(row, &mut text);
     out.extend_from_slice(&text[0..len])
+}
+
+// The words of a refusal's line.
+fn refusal_row(fault: Fault, rows: u32) -> [u32; 4]
+    ensures { λ r. ⌜ r ≡ layer-of fault ∷ number-of fault ∷ place-of fault ∷ rows ∷ [] ⌝ }
+{
+    [fault.layer(), fault.number(), fault.place(), rows]
 }
 
 // The line of a refusal, with the rows accepted before.
@@ -45,12 +50,12 @@ fn append_refusal(out: &mut Vec<u8>, fault: Fault, rows: u32) -> Result<(), Allo
     ensures { λ r. ⌜ made r (λ _. vec-items (now (out .exit)) ≡ vec-items (now (out .entry)) ++ refusal fault rows) ⌝ }
 {
     out.extend_from_slice(b"refused,")?;
-    append_row(out, &[fault.layer(), fault.number(), fault.place(), rows])
+    append_row(out, &refusal_row(fault, rows))
 }
 
 // The rows of a trace, each read and written, up to the first that is refused.
 fn append_rows(trace: &[u8], row: &mut [u32], out: &mut Vec<u8>) -> Result<(), AllocError>
-    requires { ⌜ length (now trace) ≤ 32768 ⌝ }
+    requires { ⌜ length (now trace) ≤ longest ⌝ }
     ensures { λ r. ⌜ made r (λ _. vec-items (now (out .exit)) ≡ vec-items (now (out .entry)) ++ output-from (length (now (row .entry))) 0 (lines (now (trace .entry)))) ⌝ }
 {
     let mut place = 0;
@@ -70,7 +75,7 @@ fn append_rows(trace: &[u8], row: &mut [u32], out: &mut Vec<u8>) -> Result<(), A
 
 // A trace that is not too long: its first row decides how many words each has.
 fn execute_rows(heap: Global, trace: &[u8]) -> Result<Vec<u8>, AllocError>
-    requires { ⌜ length (now trace) ≤ 32768 ⌝ }
+    requires { ⌜ length (now trace) ≤ longest ⌝ }
     ensures { λ r. ⌜ made r (λ out. vec-items out ≡ output-from (width-at (now (trace .entry)) 0) 0 (lines (now (trace .entry)))) ⌝ }
 {
     let mut row = vec![in heap; 0; row::width(trace, 0)]?;

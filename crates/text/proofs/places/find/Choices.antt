@@ -1,7 +1,8 @@
 use mathlib.Core.Path.{_≡_}
+use Prim.Native.Nat.{_≤_}
 use Rattle.text.specs.Parts.{first-from}
 use Rattle.text.proofs.places.find.Given as given
 
 -- the byte was not met yet
 abbrev pub Inv-loop-at : given.InvT-loop-at
-Inv-loop-at l = first-from (l .byte) (l .text) (l .at) ≡ first-from (l .byte) (l .text) (l .from)
+Inv-loop-at l = (first-from (l .byte) (l .text) (l .at) ≡ first-from (l .byte) (l .text) (l .from)) × (l .from ≤ l .at)

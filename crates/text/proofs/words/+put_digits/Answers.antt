@@ -1,6 +1,6 @@
 use native.Mathlib.Omega.{arith}
-use mathlib.Core.Path.{_≡_, sym, ap, _∙_}
-use Prim.Native.Nat.{_/_, _+_, _≤_, _<_, _^_}
+use mathlib.Core.Path.{ap}
+use Prim.Native.Nat.{_/_}
 use lib.ListN.{length}
 use Rattle.std.specs.Written.{decimal}
 use Rattle.text.proofs.Decimals.{length-digit, length-more, write-digit, write-more}

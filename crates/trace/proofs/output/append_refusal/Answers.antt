@@ -1,5 +1,5 @@
 use mathlib.Core.List.{List, [], _∷_, _++_}
-use mathlib.Core.Path.{_≡_, ap, ap₂, _∙_}
+use mathlib.Core.Path.{ap, ap₂, _∙_}
 use Prim.Native.Nat.{ℕ}
 use Rattle.row.specs.Rows.{row-bytes}
 use Rattle.std.proofs.shelf.Lists.{append-assoc}
@@ -13,9 +13,6 @@ pub returns : need.returns
 unfolding refusal
 returns c =
     let fault = c .args .fault in
-    let out = vec-items (c .args .out .now) in
-    let line : (c .layer .result ∷ c .number .result ∷ c .place .result ∷ c .args .rows ∷ []) ≡ (layer-of fault ∷ number-of fault ∷ place-of fault ∷ c .args .rows ∷ []) =
-    cc (c .layer .ensures, c .number .ensures, c .place .ensures) in
     made-weaker (c .append-row .result) _ _
-    (λ x e. e ∙ ap₂ (λ (xs ys : List ℕ). xs ++ ys) (c .in-Continue-extend-from-slice .ensures tt .items) (ap row-bytes line) ∙ append-assoc out refused (row-bytes (layer-of fault ∷ number-of fault ∷ place-of fault ∷ c .args .rows ∷ [])))
+    (λ x e. e ∙ ap₂ (λ (xs ys : List ℕ). xs ++ ys) (c .in-Continue-extend-from-slice .ensures tt .items) (ap row-bytes (c .refusal-row .ensures)) ∙ append-assoc (vec-items (c .args .out .now)) refused (row-bytes (layer-of fault ∷ number-of fault ∷ place-of fault ∷ c .args .rows ∷ [])))
     (c .append-row .ensures)

@@ -1,4 +1,4 @@
-use mathlib.Core.Path.{_≡_, _∙_}
+use mathlib.Core.Path.{_∙_}
 use Rattle.std.proofs.shelf.Results.{made-weaker}
 use Rattle.std.specs.Of.Vec.{vec-items}
 use Rattle.trace.proofs.Echo.{echoes-none, echoes-rows, output-long, output-short}

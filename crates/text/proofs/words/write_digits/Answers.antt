@@ -2,7 +2,7 @@ use native.Mathlib.Omega.{arith}
 use Rattle.std.specs.Written.{decimal}
 use Rattle.text.proofs.Decimals.{length-some, spells-decimal}
 use Rattle.text.proofs.Overwriting.{put-fits, put-fails}
-use Rattle.text.proofs.words.write_word.Needs as need
+use Rattle.text.proofs.words.write_digits.Needs as need
 
 pub returns-then-word-len-saturating-sub : need.returns-then-word-len-saturating-sub
 returns-then-word-len-saturating-sub c =
