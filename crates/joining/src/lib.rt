@@ -10,8 +10,6 @@ ghost use Rattle.joining.specs.contracts.shipped_set.ShippedJoinings.the-impl.
 mod joinings;
 mod sets;
 mod shipped_set;
-#[cfg(test)]
-mod tests;
 
 pub use joinings::Joining;
 pub use joinings::Maximum;

@@ -2,11 +2,11 @@
 mod faults;
 mod limits;
 mod reading;
-#[cfg(test)]
-mod tests;
 mod writing;
 
 pub use faults::RowFault;
+pub use faults::RowFaultDebug;
+pub use faults::RowFaultPartialEq;
 pub use limits::MOST_BYTES;
 pub use limits::MOST_WORDS;
 pub use limits::NEWLINE;

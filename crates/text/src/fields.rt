@@ -20,7 +20,7 @@ pub struct Field<'a> {
 }
 
 /// The fields of a line that are still to be read.
-#[derive(Clone, Copy)]
+#[derive(Drop)]
 pub struct Fields<'a> {
     text: &'a [u8],
     next: Option<usize>,

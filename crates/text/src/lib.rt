@@ -1,8 +1,6 @@
 //! Words and fields, as the parts of a text that spell them.
 mod fields;
 mod places;
-#[cfg(test)]
-mod tests;
 mod words;
 
 pub use fields::COMMA;

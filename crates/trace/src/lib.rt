@@ -1,8 +1,6 @@
 //! Executing a trace: from the bytes of its rows to the bytes of the output.
 mod faults;
 mod output;
-#[cfg(test)]
-mod tests;
 
 pub use faults::Fault;
 pub use faults::FaultFromRow;

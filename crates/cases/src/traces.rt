@@ -1,7 +1,7 @@
 //! The rules on examples.
-use super::*;
 use row::RowFault;
 use std::test::*;
+use trace::*;
 
 #[test]
 fn a_trace_comes_out_as_it_went_in(rt: LibcRuntime) -> Result<(), Fail> {

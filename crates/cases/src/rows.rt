@@ -1,7 +1,5 @@
 //! The rules of rows on examples.
-use super::*;
-use crate::faults::RowFaultDebug;
-use crate::faults::RowFaultPartialEq;
+use row::*;
 use std::test::*;
 
 // A row of 64 words of ten digits, at the place 1200 of a long text.
@@ -41,16 +39,22 @@ fn a_bare_row_has_one_field_or_none() -> Result<(), Fail> {
 #[test]
 fn reading_refuses_in_order() -> Result<(), Fail> {
     check_eq(read(b"", 0, &mut [0; 65]), Err(RowFault::TooWide))?;
-    check_refused(b"", 0, RowFault::Unended)?;
-    check_refused(b"1,2", 0, RowFault::Unended)?;
-    check_refused(b"1,2\n", 4, RowFault::Unended)?;
-    check_refused(b"1,2\n", 5, RowFault::Unended)?;
-    check_refused(b"x\n", 0, RowFault::FieldCount(1))?;
-    check_refused(b"1,2,\n", 0, RowFault::FieldCount(3))?;
-    check_refused(b",\n", 0, RowFault::NoNumber(0))?;
-    check_refused(b"1,\n", 0, RowFault::NoNumber(1))?;
-    check_refused(b"4294967296,1\n", 0, RowFault::NoNumber(0))?;
-    check_refused(b"0,007\n", 0, RowFault::NoNumber(1))
+    let cases = [
+        (b"".as_slice(), 0, RowFault::Unended),
+        (b"1,2", 0, RowFault::Unended),
+        (b"1,2\n", 4, RowFault::Unended),
+        (b"1,2\n", 5, RowFault::Unended),
+        (b"x\n", 0, RowFault::FieldCount(1)),
+        (b"1,2,\n", 0, RowFault::FieldCount(3)),
+        (b",\n", 0, RowFault::NoNumber(0)),
+        (b"1,\n", 0, RowFault::NoNumber(1)),
+        (b"4294967296,1\n", 0, RowFault::NoNumber(0)),
+        (b"0,007\n", 0, RowFault::NoNumber(1)),
+    ];
+    for (text, place, fault) in cases {
+        check_refused(text, place, fault)?;
+    }
+    Ok(())
 }
 
 #[test]
@@ -98,13 +102,19 @@ fn writing_without_room_changes_nothing() -> Result<(), Fail> {
 
 #[test]
 fn the_width_is_the_count_of_fields() -> Result<(), Fail> {
-    check_eq(width(b"\n", 0), 0)?;
-    check_eq(width(b"1\n", 0), 1)?;
-    check_eq(width(b"1,2\n", 0), 2)?;
-    check_eq(width(b"1\n,x,\n", 2), 3)?;
-    check_eq(width(b"1,2", 0), 0)?;
-    check_eq(width(b"1,2\n", 4), 0)?;
-    check_eq(width(b"1,2\n", 5), 0)
+    let cases = [
+        (b"\n".as_slice(), 0, 0),
+        (b"1\n", 0, 1),
+        (b"1,2\n", 0, 2),
+        (b"1\n,x,\n", 2, 3),
+        (b"1,2", 0, 0),
+        (b"1,2\n", 4, 0),
+        (b"1,2\n", 5, 0),
+    ];
+    for (text, place, count) in cases {
+        check_eq(width(text, place), count)?;
+    }
+    Ok(())
 }
 
 #[test]

@@ -1,5 +1,5 @@
 //! The rules on examples.
-use super::*;
+use joining::*;
 use std::test::*;
 
 #[test]

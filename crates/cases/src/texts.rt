@@ -1,34 +1,35 @@
 //! The rules of words and fields on examples.
-use super::*;
 use std::test::*;
+use text::*;
 
 #[test]
 fn a_word_is_digits_without_a_leading_zero() -> Result<(), Fail> {
-    check_eq(parse_word(b"0"), Some(0))?;
-    check_eq(parse_word(b"7"), Some(7))?;
-    check_eq(parse_word(b"4294967295"), Some(4_294_967_295))?;
-    let none = [
-        "",
-        "007",
-        "00",
-        "4294967296",
-        "99999999999999999999",
-        "1a",
-        "+1",
-        "-1",
-        " 1",
+    let cases = [
+        ("0", Some(0)),
+        ("7", Some(7)),
+        ("4294967295", Some(4_294_967_295)),
+        ("", None),
+        ("007", None),
+        ("00", None),
+        ("4294967296", None),
+        ("99999999999999999999", None),
+        ("1a", None),
+        ("+1", None),
+        ("-1", None),
+        (" 1", None),
     ];
-    for text in none {
-        check_eq(parse_word(text.as_bytes()), None).note(text)?;
+    for (text, word) in cases {
+        check_eq(parse_word(text.as_bytes()), word).note(text)?;
     }
     Ok(())
 }
 
 #[test]
 fn a_word_has_one_digit_to_ten() -> Result<(), Fail> {
-    check_eq(word_len(0), 1)?;
-    check_eq(word_len(10), 2)?;
-    check_eq(word_len(4_294_967_295), 10)
+    for (word, digits) in [(0, 1), (10, 2), (4_294_967_295, 10)] {
+        check_eq(word_len(word), digits)?;
+    }
+    Ok(())
 }
 
 #[test]
@@ -51,6 +52,7 @@ fn a_word_that_does_not_fit_changes_nothing() -> Result<(), Fail> {
     check_eq(&text[..], b"abcdefghi")
 }
 
+// The next field is this part of the text, at this place.
 fn check_next(fields: &mut Fields, text: &[u8], place: usize) -> Result<(), Fail> {
     let field = fields.next_field().ok_or("no field")?;
     check_eq(field.text, text)?;
@@ -91,10 +93,16 @@ fn no_field_is_past_the_end() -> Result<(), Fail> {
 
 #[test]
 fn the_first_such_byte_at_or_after_a_place() -> Result<(), Fail> {
-    check_eq(find(b"abcb", b'b', 0), Some(1))?;
-    check_eq(find(b"abcb", b'b', 1), Some(1))?;
-    check_eq(find(b"abcb", b'b', 2), Some(3))?;
-    check_eq(find(b"abcb", b'd', 0), None)?;
-    check_eq(find(b"abcb", b'b', 4), None)?;
-    check_eq(find(b"abcb", b'b', 5), None)
+    let cases = [
+        (b'b', 0, Some(1)),
+        (b'b', 1, Some(1)),
+        (b'b', 2, Some(3)),
+        (b'd', 0, None),
+        (b'b', 4, None),
+        (b'b', 5, None),
+    ];
+    for (byte, from, place) in cases {
+        check_eq(find(b"abcb", byte, from), place)?;
+    }
+    Ok(())
 }
