@@ -8,6 +8,7 @@ use lib.ListN.{length, take, drop}
 use Rattle.std.proofs.shelf.Lists.{drop-take, length-drop, length-take, take-all}
 use Rattle.std.proofs.shelf.Tests.{cases-lt}
 use Rattle.std.specs.Options.{Cases}
+use Rattle.text.specs.Parts.{Absent, First}
 use Rattle.std.specs.declared.option.Option.{Option}
 use Rattle.std.specs.declared.option.Option.the-variants.{Some, None}
 
@@ -18,6 +19,6 @@ window text place room most e =
     (λ (h : length text ≤ place + room). ap (drop place) (take-all most text (omega arith)) ∙ sym (take-all room (drop place text) (omega (arith, length-drop place text))))
     (cases-lt (place + room) (length text))
 
-pub window-within : (o : Option ℕ) (text : List ℕ) (place room most : ℕ) → most ≡ min (length text) (place + room) → Cases o (Unit {0}) (λ at. (place ≤ at) × (at < length (take most text))) → Cases o (Unit {0}) (λ end. (place ≤ end) × (end < place + room) × (end < length text))
-window-within None text place room most e h = tt
-window-within (Some at) text place room most e h = let n = length-take most text in omega arith
+pub window-within : (o : Option ℕ) (byte : ℕ) (text : List ℕ) (place room most : ℕ) → most ≡ min (length text) (place + room) → Cases o (Absent byte (take most text) place) (λ at. First byte (take most text) place at) → Cases o (Unit {0}) (λ end. (place ≤ end) × (end < place + room) × (end < length text))
+window-within None byte text place room most e h = tt
+window-within (Some at) byte text place room most e h = omega (arith, length-take most text, h .after, h .within)

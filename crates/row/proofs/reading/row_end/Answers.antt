@@ -17,5 +17,5 @@ returns c =
     let e : most - 0 ≡ min (length text) (place + 704) = omega (arith, c .window-end-most .ensures) in
     record {
       line = line-cases text place (c .find .result) (c .find .ensures .value ∙ ap (λ (t : List ℕ). mapped (λ n. place + n) (position 10 t)) (window text place 704 (most - 0) e));
-      within = window-within (c .find .result) text place 704 (most - 0) e (c .find .ensures .within);
+      within = window-within (c .find .result) 10 text place 704 (most - 0) e (c .find .ensures .first);
     }

@@ -18,7 +18,7 @@ returns-in-Some c =
     let h : place ≤ length text = omega (arith, c .args .self .now .within, ap (λ (o : Option ℕ). valueOr o 0) next) in
     record {
       text = refl;
-      field = ap (fields-from text) next ∙ from-cut text place end h (found .within .1) (sym (found .value));
+      field = ap (fields-from text) next ∙ from-cut text place end h (found .first .within) (sym (found .value));
       place = (refl, take-length (end - place) (drop place text));
       next = sym (ap (next-place text) next ∙ ap (mapped (λ i. i + 1)) (sym (found .value)));
     }
