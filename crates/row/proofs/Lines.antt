@@ -13,7 +13,7 @@ use Rattle.std.specs.declared.option.Option.the-variants.{Some, None}
 use Rattle.std.specs.declared.result.Result.{Result}
 use Rattle.std.specs.declared.result.Result.the-variants.{Ok, Err}
 use Rattle.row.specs.declared.faults.RowFault.{RowFault}
-use Rattle.row.specs.declared.faults.RowFault.the-variants.{TooWide, Unended}
+use Rattle.row.specs.declared.faults.RowFault.the-variants.{TooWide}
 use Rattle.row.specs.Reading.{ending, line-at, line-length, line-words, read-row, row-of, settled}
 
 -- where the row ends tells its line
@@ -41,9 +41,6 @@ line-cases text place (Some end) e = line-some text place end e
 read-narrow : (text : List ℕ) (place : ℕ) (row : List ℕ) → length row ≤ 64 → read-row text place row ≡ settled row (row-of place (length row) (line-at text place))
 read-narrow text place row h =
     ap (settled row) (cond-false (ltb 64 (length row)) (Err TooWide) (row-of place (length row) (line-at text place)) (le-ltb 64 (length row) h))
-
-pub read-unended : (text : List ℕ) (place : ℕ) (row : List ℕ) → length row ≤ 64 → line-at text place ≡ None → read-row text place row ≡ (Err Unended, row)
-read-unended text place row h e = read-narrow text place row h ∙ ap (λ (o : Option (List ℕ)). settled row (row-of place (length row) o)) e
 
 module _ (text : List ℕ) (place : ℕ) (row line : List ℕ) (h : length row ≤ 64) (e : line-at text place ≡ Some line) where
   pub read-bad : (fault : RowFault) → line-words (length row) line ≡ Err fault → read-row text place row ≡ (Err fault, row)

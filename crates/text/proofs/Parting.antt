@@ -7,7 +7,7 @@ use native.Mathlib.Omega.{arith}
 use lib.Dec.{eqb, leb}
 use lib.ListN.{length, take, drop}
 use Rattle.std.proofs.shelf.Lists.{append-nil, drop-drop, take-at, take-rest}
-use Rattle.std.proofs.shelf.Tests.{cond-true, cond-false, eqb-true, le-leb, lt-leb}
+use Rattle.std.proofs.shelf.Tests.{cond-true, eqb-true, le-leb}
 use Rattle.std.specs.Options.{mapped}
 use Rattle.std.specs.declared.option.Option.{Option}
 use Rattle.std.specs.declared.option.Option.the-variants.{Some, None}
@@ -107,9 +107,6 @@ parted-only line fs p = sym (fields-unique fs (p .some) (p .apart)) ∙ ap field
 -- the fields from a place on, one by one
 pub from-within : (text : List ℕ) (place : ℕ) → place ≤ length text → fields-from text (Some place) ≡ fields (drop place text)
 from-within text place h = cond-true (leb place (length text)) (fields (drop place text)) [] (le-leb place (length text) h)
-
-pub from-past : (text : List ℕ) (place : ℕ) → length text < place → fields-from text (Some place) ≡ []
-from-past text place h = cond-false (leb place (length text)) (fields (drop place text)) [] (lt-leb place (length text) h)
 
 pub from-cut : (text : List ℕ) (place end : ℕ) → place ≤ length text → end < length text → first-from comma text place ≡ Some end → fields-from text (Some place) ≡ take (end - place) (drop place text) ∷ fields-from text (Some (end + 1))
 from-cut text place end h k e = from-within text place h ∙ go (position comma (drop place text)) refl

@@ -4,4 +4,5 @@ mod output;
 
 pub use faults::Fault;
 pub use faults::FaultFromRow;
+pub use output::MOST_BYTES;
 pub use output::execute;

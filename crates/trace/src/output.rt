@@ -16,8 +16,8 @@ use crate::faults::FaultFromRow;
 use std::alloc::AllocError;
 use std::alloc::Global;
 
-// The longest trace.
-const MOST_BYTES: usize = 32768;
+/// The bytes of the longest trace.
+pub const MOST_BYTES: usize = 32768;
 
 // A row that is not too wide, at the front of a text that holds the longest: how many bytes it has.
 fn row_text(row: &[u32], text: &mut [u8]) -> usize
