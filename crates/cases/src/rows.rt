@@ -85,16 +85,16 @@ fn a_full_row_is_written(rt: HostRuntime) {
 fn a_row_is_written_where_it_fits(rt: HostRuntime) {
     let mut text = *b"abcdef";
     assert_eq!(rt; write(&[10, 2], &mut text), Ok(5));
-    assert_eq!(rt; &text[..], b"10,2\nf");
+    assert_eq!(rt; &text[..], b"10,2\nf".as_slice());
     assert_eq!(rt; write(&[], &mut text), Ok(1));
-    assert_eq!(rt; &text[..], b"\n0,2\nf");
+    assert_eq!(rt; &text[..], b"\n0,2\nf".as_slice());
 }
 
 #[test]
 fn writing_without_room_changes_nothing(rt: HostRuntime) {
     let mut text = *b"abcd";
     assert_eq!(rt; write(&[10, 2], &mut text), Err(RowFault::NoRoom));
-    assert_eq!(rt; &text[..], b"abcd");
+    assert_eq!(rt; &text[..], b"abcd".as_slice());
     assert_eq!(rt; write(&[], &mut []), Err(RowFault::NoRoom));
     assert_eq!(rt; write(&[0; 65], &mut []), Err(RowFault::TooWide));
 }

@@ -36,9 +36,9 @@ fn a_word_is_written_where_it_fits(rt: HostRuntime) {
     let mut text = *b"abcdefghijklm";
     assert_eq!(rt; write_word(0, &mut text, 12), Some(13));
     assert_eq!(rt; write_word(10, &mut text, 0), Some(2));
-    assert_eq!(rt; &text[..], b"10cdefghijkl0");
+    assert_eq!(rt; &text[..], b"10cdefghijkl0".as_slice());
     assert_eq!(rt; write_word(4_294_967_295, &mut text, 2), Some(12));
-    assert_eq!(rt; &text[..], b"1042949672950");
+    assert_eq!(rt; &text[..], b"1042949672950".as_slice());
 }
 
 #[test]
@@ -48,7 +48,7 @@ fn a_word_that_does_not_fit_changes_nothing(rt: HostRuntime) {
     assert_eq!(rt; write_word(10, &mut text, 8), None);
     assert_eq!(rt; write_word(0, &mut text, 9), None);
     assert_eq!(rt; write_word(0, &mut text, 10), None);
-    assert_eq!(rt; &text[..], b"abcdefghi");
+    assert_eq!(rt; &text[..], b"abcdefghi".as_slice());
 }
 
 // The next field is this part of the text, at this place.

@@ -1,4 +1,6 @@
 //! The lines of a chart file.
+#![tactic(auto)]
+
 mod effects;
 mod expressions;
 mod lines;

@@ -1,4 +1,6 @@
 //! Executing a trace: from the bytes of a chart and of the rows to the bytes of the output.
+#![tactic(auto)]
+
 mod output;
 
 pub use output::{MOST_BYTES, execute};

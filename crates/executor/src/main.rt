@@ -1,4 +1,6 @@
 //! The program: reads the trace in its folder and prints the output for it.
+#![tactic(auto)]
+
 use std::fs::File;
 use std::io;
 use std::io::{Read, Write};

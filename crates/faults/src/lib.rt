@@ -1,5 +1,7 @@
 //! Everything that is refused: each fault with the number of its question and its place. The fault
 //! of a lower layer is carried whole in the layer above.
+#![tactic(auto)]
+
 mod charts;
 mod lines;
 mod outputs;

@@ -1,4 +1,6 @@
 //! Graphs on the numbers below a count, and ranks for their nodes.
+#![tactic(auto)]
+
 mod graphs;
 mod ranking;
 mod tables;

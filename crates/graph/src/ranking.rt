@@ -17,7 +17,7 @@ pub enum Ranking {
 fn fill_row<G: Graph>(graph: &G, table: &mut Table, node: usize)
     requires { node < table.old.size }
     ensures size { table.new.size ≡ table.old.size }
-    ensures cells { Holds table.old.size table.new.cells.items (with_row (cell table.old.size table.old.cells.items) node (follows graph.now node)) }
+    ensures cells { Holds table.old.size table.new.cells.items (with_row (cell table.old.size table.old.cells.items) node (G.follows graph.now node)) }
 {
     for other in 0..table.size {
         table.add(node, other, graph.is_follower(node, other));
@@ -28,7 +28,7 @@ fn fill_row<G: Graph>(graph: &G, table: &mut Table, node: usize)
 fn fill<G: Graph>(graph: &G, table: &mut Table)
     requires { Holds table.old.size table.old.cells.items (λ _ _. false) }
     ensures size { table.new.size ≡ table.old.size }
-    ensures cells { Holds table.old.size table.new.cells.items (follows graph.now) }
+    ensures cells { Holds table.old.size table.new.cells.items (G.follows graph.now) }
 {
     for node in 0..table.size {
         fill_row(graph, table, node);
@@ -37,7 +37,7 @@ fn fill<G: Graph>(graph: &G, table: &mut Table)
 
 // The table of what reaches what.
 fn reach_table<G: Graph>(heap: Global, graph: &G) -> Result<Table, AllocError>
-    ensures { IfOk result (λ t. (t.size ≡ nodes graph.now) × Holds (nodes graph.now) t.cells.items (reaches (nodes graph.now) (follows graph.now))) }
+    ensures { IfOk result (λ t. (t.size ≡ G.nodes graph.now) × Holds (G.nodes graph.now) t.cells.items (reaches (G.nodes graph.now) (G.follows graph.now))) }
 {
     let mut table = Table::new(heap, graph.node_count())?;
     fill(graph, &mut table);
@@ -103,9 +103,9 @@ fn ranking_of(heap: Global, table: &Table) -> Result<Ranking, AllocError>
 /// A rank for each node, higher at each follower; or, where a node reaches itself, the lowest node
 /// that does.
 pub fn rank<G: Graph>(heap: Global, graph: &G) -> Result<Ranking, AllocError>
-    ensures value { IfOk result (λ answer. loop_of answer ≡ lowest_loop (nodes graph.now) (follows graph.now)) }
-    ensures lowest { IfOk result (λ answer. Lowest (nodes graph.now) (follows graph.now) (loop_of answer)) }
-    ensures ranks { IfOk result (λ answer. RanksRise (nodes graph.now) (follows graph.now) answer) }
+    ensures value { IfOk result (λ answer. loop_of answer ≡ lowest_loop (G.nodes graph.now) (G.follows graph.now)) }
+    ensures lowest { IfOk result (λ answer. Lowest (G.nodes graph.now) (G.follows graph.now) (loop_of answer)) }
+    ensures ranks { IfOk result (λ answer. RanksRise (G.nodes graph.now) (G.follows graph.now) answer) }
 {
     let table = reach_table(heap, graph)?;
     ranking_of(heap, &table)

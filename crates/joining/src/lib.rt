@@ -3,6 +3,8 @@
 //! A word is a whole number from 0 to 4,294,967,295, a `u32`. Joining two words gives a word, and
 //! neither the order of the words nor the way they are bracketed matters: each `Joining` proves
 //! these as laws. Joining refuses nothing and changes nothing.
+#![tactic(auto)]
+
 ghost use Rattle.std.specs.Prelude.{◌≡◌};
 ghost use Rattle.joining.specs.Shipped.{shipped_joinings};
 ghost use Rattle.joining.specs.contracts.shipped_set.ShippedSetJoiningSet.TheImpl.{ghosts as ShippedJoinings};

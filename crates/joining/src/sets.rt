@@ -53,7 +53,7 @@ impl<S: JoiningSet, J: Joining> JoiningSet for Also<S, J> {
 
     ghost lawful = { λ s.
         let law = J.Joining in
-        all-lawful-more _ _ (S.JoiningSet.lawful s.set)
+        all_lawful_more _ _ (S.JoiningSet.lawful s.set)
         (record { closed = law.closed s.last; commutes = law.commutes s.last; associates = law.associates s.last }) };
 
     fn count(&self) -> u32 {

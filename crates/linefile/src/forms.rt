@@ -35,7 +35,7 @@ pub fn only_byte(field: &[u8]) -> Option<u8>
 
 /// The value of the next field, if there is one and it has the form.
 pub fn take_field<F: FieldForm>(fields: &mut Fields) -> Option<F>
-    ensures value { result ≡ first_of form (fields_from fields.old.text.now fields.old.next) }
+    ensures value { result ≡ first_of F.form (fields_from fields.old.text.now fields.old.next) }
     ensures left { fields_from fields.new.text.now fields.new.next ≡ rest (fields_from fields.old.text.now fields.old.next) }
     ensures text { fields.new.text.now ≡ fields.old.text.now }
     ensures next { fields.new.next ≡ next_place fields.old.text.now fields.old.next }

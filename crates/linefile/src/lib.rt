@@ -1,4 +1,6 @@
 //! Line files: reading one of any kind, the forms of its fields, and questions asked of its lines.
+#![tactic(auto)]
+
 mod forms;
 mod questions;
 mod reading;

@@ -69,7 +69,7 @@ fn read_line<L: FileLine + Drop>(
     place: u32,
     progress: Progress,
 ) -> Result<(usize, L), LineFault>
-    ensures { result ≡ lettered format (nat_le progress.letter) (λ letter. (if nat_eq letter progress.letter then progress.count else 0)) place line.now }
+    ensures { result ≡ lettered L.format (nat_le progress.letter) (λ letter. (if nat_eq letter progress.letter then progress.count else 0)) place line.now }
 {
     let letter = match letter_of(L::letters(), line) {
         Some(letter) if letter >= progress.letter => letter,
@@ -90,7 +90,7 @@ fn read_line<L: FileLine + Drop>(
 // The lines of a whole file, each in turn.
 fn read_each<L: FileLine + Drop>(heap: Global, text: &[u8]) -> Result<Vec<L>, FileFault>
     requires { is_whole text.now ≡ true }
-    ensures { Tells (in_file (read_lines format [] (lines text.now))) result }
+    ensures { Tells (in_file (read_lines L.format [] (lines text.now))) result }
 {
     let mut read = Vec::new(heap);
     let mut progress = Progress {
@@ -112,7 +112,7 @@ fn read_each<L: FileLine + Drop>(heap: Global, text: &[u8]) -> Result<Vec<L>, Fi
 
 // Reading, without the law above it.
 fn read_file<L: FileLine + Drop>(heap: Global, text: &[u8]) -> Result<Vec<L>, FileFault>
-    ensures { Tells (file_lines format text.now) result }
+    ensures { Tells (file_lines L.format text.now) result }
 {
     if !is_whole(text) {
         return Err(FileFault::Bytes);
@@ -122,8 +122,8 @@ fn read_file<L: FileLine + Drop>(heap: Global, text: &[u8]) -> Result<Vec<L>, Fi
 
 /// The lines of a file, or the first fault in it.
 pub fn read_lines<L: FileLine + Drop>(heap: Global, text: &[u8]) -> Result<Vec<L>, FileFault>
-    ensures value { Tells (file_lines format text.now) result }
-    ensures exactly { Exactly format text.now result }
+    ensures value { Tells (file_lines L.format text.now) result }
+    ensures exactly { Exactly L.format text.now result }
 {
     read_file(heap, text)
 }

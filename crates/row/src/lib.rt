@@ -1,4 +1,6 @@
 //! Rows of words: read from a text and written into one, in memory that the caller lends.
+#![tactic(auto)]
+
 mod faults;
 mod limits;
 mod reading;

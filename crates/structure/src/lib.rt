@@ -1,4 +1,6 @@
 //! The structure of a chart: its lines by kind, and the questions that they have to answer.
+#![tactic(auto)]
+
 mod asking;
 mod checking;
 mod effects;

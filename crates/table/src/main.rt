@@ -1,5 +1,7 @@
 //! Runs a table of cases: on each line of standard input a name, a chart and a trace, parted by
 //! `;`, in which `/` stands for byte 10. For each it prints the name and the output, written so.
+#![tactic(auto)]
+
 use std::alloc::{AllocError, Global};
 use std::io;
 use std::io::{BufRead, BufReader, Write};

@@ -1,4 +1,6 @@
 //! Words and fields, as the parts of a text that spell them.
+#![tactic(auto)]
+
 mod fields;
 mod places;
 mod words;

@@ -1,4 +1,6 @@
 //! Executing a trace: from the bytes of its rows to the bytes of the output.
+#![tactic(auto)]
+
 mod faults;
 mod output;
 

@@ -10,6 +10,6 @@ pub returns : goal.returns
 unfolding refusal
 returns c =
     let fault = c.args.fault in
-    IfOk-weaker c.append-row.result _ _
-    (λ x e. e ∙ ap₂ (λ (xs ys : List ℕ). xs ++ ys) c.in-ok-extend-from-slice.ensures.items (ap row_bytes c.refusal-row.ensures) ∙ append_assoc (vec_items c.args.out.now) refused (row_bytes (layer_of fault ∷ number_of fault ∷ place_of fault ∷ c.args.rows ∷ [])))
-    c.append-row.ensures
+    IfOk-weaker c.append_row.result _ _
+    (λ x e. e ∙ ap₂ (λ (xs ys : List ℕ). xs ++ ys) c.in_ok-extend_from_slice.ensures.items (ap row_bytes c.refusal_row.ensures) ∙ append_assoc (vec_items c.args.out.now) refused (row_bytes (layer_of fault ∷ number_of fault ∷ place_of fault ∷ c.args.rows ∷ [])))
+    c.append_row.ensures

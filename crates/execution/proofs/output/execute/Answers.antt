@@ -7,6 +7,6 @@ use Rattle.execution.proofs.output.execute.Goals as goal
 pub returns : goal.returns
 returns c =
     record {
-      value = c.execute-files.ensures;
-      echo = IfOk-weaker c.execute-files.result _ _ (λ out e. echoes (option_map vec_items c.args.chart) (option_map vec_items c.args.trace) (vec_items out) e) c.execute-files.ensures;
+      value = c.execute_files.ensures;
+      echo = IfOk-weaker c.execute_files.result _ _ (λ out e. echoes (option_map vec_items c.args.chart) (option_map vec_items c.args.trace) (vec_items out) e) c.execute_files.ensures;
     }

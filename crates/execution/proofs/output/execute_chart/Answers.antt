@@ -7,12 +7,12 @@ use Rattle.execution.proofs.output.execute_chart.Goals as goal
 
 pub returns-in-Err : goal.returns-in-Err
 returns-in-Err c =
-    IfOk-weaker c.refuse-chart.result _ _
+    IfOk-weaker c.refuse_chart.result _ _
     (λ out told. told.1 ∙ charted_stop (shipped_verdict c.args.chart.now) c.in-Err.fault (option_map vec_items c.args.trace) told.0 c.in-Err.ensures)
-    c.refuse-chart.ensures
+    c.refuse_chart.ensures
 
 pub returns-in-Ok : goal.returns-in-Ok
 returns-in-Ok c =
-    IfOk-weaker c.execute-trace.result _ _
+    IfOk-weaker c.execute_trace.result _ _
     (λ out told. told ∙ charted_go (shipped_verdict c.args.chart.now) c.in-Ok.width (option_map vec_items c.args.trace) c.in-Ok.ensures)
-    c.execute-trace.ensures
+    c.execute_trace.ensures

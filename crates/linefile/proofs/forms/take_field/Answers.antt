@@ -4,11 +4,11 @@ use Rattle.linefile.specs.Forms.{first_of, rest}
 use Rattle.text.proofs.Parting.{from_none}
 use Rattle.linefile.proofs.forms.take_field.Goals as goal
 
-pub returns-in-err-field : goal.returns-in-err-field
-returns-in-err-field g c =
-    let told = c.in-err-field.ensures in
+pub returns-in_err-field : goal.returns-in_err-field
+returns-in_err-field g c =
+    let told = c.in_err-field.ensures in
     record {
-      value = c.from-residual.ensures ∙ sym (ap (first_of g.F.FieldForm.form) told.field);
+      value = c.from_residual.ensures ∙ sym (ap (first_of g.F.FieldForm.form) told.field);
       left =
           ap₂ fields_from told.text told.next
           ∙ from_none c.args.fields.now.text.now c.args.fields.now.next told.field

@@ -3,4 +3,4 @@ use Rattle.linefile.proofs.reading.read_lines.Goals as goal
 
 pub returns : goal.returns
 returns g c =
-    record { value = c.read-file.ensures; exactly = exactly g.L.FileLine.format c.args.text.now c.read-file.result c.read-file.ensures }
+    record { value = c.read_file.ensures; exactly = exactly g.L.FileLine.format c.args.text.now c.read_file.result c.read_file.ensures }

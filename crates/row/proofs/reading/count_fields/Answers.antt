@@ -18,8 +18,8 @@ returns-then-place-text c =
 pub loop-count-init : goal.loop-count-init
 loop-count-init c = omega (arith, ap length (c.new-fields.ensures.fields ∙ from_within c.args.text.now c.args.place c.requires.0))
 
-pub overflow-add-count : goal.overflow-add-count
-overflow-add-count c =
+pub overflow_add-count : goal.overflow_add-count
+overflow_add-count c =
     let line = drop c.args.place c.args.text.now in
     omega (arith, length_fields line, length-drop c.args.place c.args.text.now, ap length c.in-Some.ensures.field)
 
@@ -31,5 +31,5 @@ returns c =
       | else-due-eq0-via-then-due-eq0+else-place-text w ↦ inr (omega (arith, length-drop c.args.place text))
       | else-due-eq0-via-else-due-eq0 w ↦ inl (omega arith)
     ]) in
-    let none = ap length c.in-default.ensures.field in
+    let none = ap length c.in_default.ensures.field in
     record { value = omega (arith, ap length due); bound = omega (arith, length_fields line, length-drop c.args.place text) }

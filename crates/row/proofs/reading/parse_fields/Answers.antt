@@ -12,11 +12,11 @@ loop-field-init c =
       refl,
     )
 
-pub returns-in-default-parse-word : goal.returns-in-default-parse-word
-returns-in-default-parse-word c =
+pub returns-in_default-parse_word : goal.returns-in_default-parse_word
+returns-in_default-parse_word c =
     let words = take c.loop-field.at c.loop-field.words in
     let left = c.in-Some.ensures.field in
-    sym (after_stop c.loop-field.at words c.in-Some.field.text.now (fields_from c.next-field.new.self.text.now c.next-field.new.self.next) (sym c.in-default-parse-word.ensures.value))
+    sym (after_stop c.loop-field.at words c.in-Some.field.text.now (fields_from c.next_field.new.self.text.now c.next_field.new.self.next) (sym c.in_default-parse_word.ensures.value))
     ∙ ap (words_after c.loop-field.at words) (sym left)
     ∙ c.loop-field.invariant.0
 
@@ -24,11 +24,11 @@ pub loop-field-preserved : goal.loop-field-preserved
 loop-field-preserved c =
     let at = c.loop-field.at in
     let words = c.loop-field.words in
-    let word = c.in-Some-parse-word.word in
-    let rest = fields_from c.next-field.new.self.text.now c.next-field.new.self.next in
+    let word = c.in-Some-parse_word.word in
+    let rest = fields_from c.next_field.new.self.text.now c.next_field.new.self.next in
     let left = c.in-Some.ensures.field in (
       ap (λ (ws : List ℕ). words_after (at + 1) ws rest) (take_more_set words at word (omega (arith, ap length left)))
-          ∙ sym (after_more at (take at words) c.in-Some.field.text.now rest word (sym c.in-Some-parse-word.ensures.value))
+          ∙ sym (after_more at (take at words) c.in-Some.field.text.now rest word (sym c.in-Some-parse_word.ensures.value))
           ∙ ap (words_after at (take at words)) (sym left)
           ∙ c.loop-field.invariant.0,
       omega (arith, ap length left),
@@ -39,7 +39,7 @@ pub returns : goal.returns
 returns c =
     let at = c.loop-field.at in
     let words = c.loop-field.words in
-    let none = c.in-default.ensures.field in
+    let none = c.in_default.ensures.field in
     let all : length (fields_from c.args.text.now (Some c.args.place)) ≡ at = omega (arith, ap length none) in
     ap (λ (n : ℕ). Ok (take n words)) all
     ∙ sym (after_all at (take at words))

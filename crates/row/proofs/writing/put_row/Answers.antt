@@ -12,8 +12,8 @@ use Rattle.row.proofs.writing.put_row.Goals as goal
 pub bounds-text-0 : goal.bounds-text-0
 bounds-text-0 c = omega (arith, c.requires, length_row c.args.row.now)
 
-pub put-words-requires : goal.put-words-requires
-put-words-requires c =
+pub put_words-requires : goal.put_words-requires
+put_words-requires c =
     let some : 0 < length c.args.row.now = search rules in
     omega (arith, c.requires, ap (λ (ws : List ℕ). length (row_bytes ws)) (first_rest c.args.row.now 0 some))
 
@@ -28,7 +28,7 @@ returns-in-empty c =
     overwritten_one text 0 10 (omega (arith, c.requires, len)) ∙ ap (λ (ws : List ℕ). overwritten text 0 (row_bytes ws)) (sym nil) in
     record {
       all = ap₂ (λ (n : ℕ) (t : List ℕ). (Ok n, t)) len wrote ∙ sym (write_fits row text c.requires.0 c.requires.1);
-      again = rereads row text (set text 0 10) 1 c.requires.0 (λ i. omega (arith, c.type-inv.row i)) wrote len;
+      again = rereads row text (set text 0 10) 1 c.requires.0 (λ i. omega (arith, c.type_inv.row i)) wrote len;
     }
 
 pub returns-in-len1-up : goal.returns-in-len1-up
@@ -37,10 +37,10 @@ returns-in-len1-up c =
     let text = c.args.text.now in
     let some : 0 < length row = search rules in
     let whole = sym (first_rest row 0 some) in
-    let len : c.put-words.result ≡ length (row_bytes row) = c.put-words.ensures.len ∙ ap (λ (ws : List ℕ). length (row_bytes ws)) whole in
-    let wrote : c.put-words.new.text ≡ overwritten text 0 (row_bytes row) =
-    c.put-words.ensures.text ∙ ap (λ (ws : List ℕ). overwritten text 0 (row_bytes ws)) whole in
+    let len : c.put_words.result ≡ length (row_bytes row) = c.put_words.ensures.len ∙ ap (λ (ws : List ℕ). length (row_bytes ws)) whole in
+    let wrote : c.put_words.new.text ≡ overwritten text 0 (row_bytes row) =
+    c.put_words.ensures.text ∙ ap (λ (ws : List ℕ). overwritten text 0 (row_bytes ws)) whole in
     record {
       all = ap₂ (λ (n : ℕ) (t : List ℕ). (Ok n, t)) len wrote ∙ sym (write_fits row text c.requires.0 c.requires.1);
-      again = rereads row text c.put-words.new.text c.put-words.result c.requires.0 (λ i. omega (arith, c.type-inv.row i)) wrote len;
+      again = rereads row text c.put_words.new.text c.put_words.result c.requires.0 (λ i. omega (arith, c.type_inv.row i)) wrote len;
     }

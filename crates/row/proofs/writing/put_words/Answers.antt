@@ -3,19 +3,19 @@ use Rattle.text.specs.Parts.{overwritten}
 use Rattle.row.proofs.Tails.{tail, length_row_first, length_tail_at, length_tail_end, length_tail_some, row_more, tail_at, tail_end}
 use Rattle.row.proofs.writing.put_words.Goals as goal
 
-pub put-word-place-requires : goal.put-word-place-requires
-put-word-place-requires c = omega (arith, c.requires, length_row_first c.args.first c.args.rest.now)
+pub put_word-place-requires : goal.put_word-place-requires
+put_word-place-requires c = omega (arith, c.requires, length_row_first c.args.first c.args.rest.now)
 
 pub bounds-text-place : goal.bounds-text-place
 bounds-text-place c =
     omega (arith, length_row_first c.args.first c.args.rest.now, length_tail_some (drop c.loop-word.word-index c.args.rest.now))
 
-pub overflow-add-place : goal.overflow-add-place
-overflow-add-place c =
+pub overflow_add-place : goal.overflow_add-place
+overflow_add-place c =
     omega (arith, length_row_first c.args.first c.args.rest.now, length_tail_some (drop c.loop-word.word-index c.args.rest.now))
 
-pub put-word-place-requires-in-loop-word : goal.put-word-place-requires-in-loop-word
-put-word-place-requires-in-loop-word c =
+pub put_word-place-requires-in-loop-word : goal.put_word-place-requires-in-loop-word
+put_word-place-requires-in-loop-word c =
     omega (arith, length_row_first c.args.first c.args.rest.now, length_tail_at c.args.rest.now c.loop-word.word-index c.loop-word-test.true, length-set c.loop-word.text c.loop-word.place 44)
 
 pub loop-word-preserved : goal.loop-word-preserved
@@ -24,7 +24,7 @@ loop-word-preserved c =
     let i = c.loop-word.word-index in
     let long = length_tail_at rest i c.loop-word-test.true in
     let first = length_row_first c.args.first rest in
-    let put = c.put-word-place-in-loop-word.ensures in (
+    let put = c.put_word-place-in-loop-word.ensures in (
       ap₂ (λ (t : List ℕ) (n : ℕ). overwritten t n (tail (drop (i + 1) rest))) put.text put.place
           ∙ tail_at rest i c.loop-word.text c.loop-word.place c.loop-word-test.true (omega arith)
           ∙ c.loop-word.invariant.0,
@@ -35,8 +35,8 @@ pub bounds-text-place-2 : goal.bounds-text-place-2
 bounds-text-place-2 c =
     omega (arith, length_row_first c.args.first c.args.rest.now, length_tail_some (drop c.loop-word.word-index c.args.rest.now))
 
-pub overflow-add-result : goal.overflow-add-result
-overflow-add-result c =
+pub overflow_add-result : goal.overflow_add-result
+overflow_add-result c =
     omega (arith, length_row_first c.args.first c.args.rest.now, length_tail_some (drop c.loop-word.word-index c.args.rest.now))
 
 pub returns : goal.returns
@@ -49,6 +49,6 @@ returns c =
       len = omega arith;
       text = tail_end rest c.loop-word.word-index c.loop-word.text c.loop-word.place c.loop-word-test.false (omega arith)
           ∙ c.loop-word.invariant.0
-          ∙ ap₂ (λ (t : List ℕ) (n : ℕ). overwritten t n (tail rest)) c.put-word-place.ensures.text c.put-word-place.ensures.place
+          ∙ ap₂ (λ (t : List ℕ) (n : ℕ). overwritten t n (tail rest)) c.put_word-place.ensures.text c.put_word-place.ensures.place
           ∙ row_more c.args.text.now c.args.first rest (omega arith);
     }

@@ -6,4 +6,4 @@ use Rattle.structure.proofs.reading.read_chart.Goals as goal
 
 pub sorted-requires : goal.sorted-requires
 sorted-requires c =
-    subst (λ (ls : List Line). Limited (listed ls)) (sym c.deref.ensures.value) (limited c.args.text.now (vec_items c.in-ok-read.read) c.in-ok-read.ensures.exactly)
+    subst (λ (ls : List Line). Limited (listed ls)) (sym c.deref.ensures.value) (limited c.args.text.now (vec_items c.in_ok-read.read) c.in_ok-read.ensures.exactly)

@@ -1,7 +1,7 @@
 use Rattle.std.proofs.Common.{vec_items, sym, ap, ◌∙◌}
 use Rattle.structure.proofs.Picking.{picked_all, picked_none, picked_one}
 use Rattle.structure.proofs.sorting.pick_all.Goals as goal
-use Rattle.structure.proofs.sorting.pick_all.Goals.{in-Some+in-ok-push, in-default}
+use Rattle.structure.proofs.sorting.pick_all.Goals.{in-Some+in_ok-push, in_default}
 
 pub loop-line-preserved : goal.loop-line-preserved
 loop-line-preserved g c =
@@ -9,13 +9,13 @@ loop-line-preserved g c =
     let lines = c.args.lines.now in
     let so_far = vec_items c.loop-line.all in
     elim c.match-pick.branch [
-      | in-Some+in-ok-push w ↦
+      | in-Some+in_ok-push w ↦
           picked_one pick lines c.loop-line.line-index so_far _ c.loop-line-test.true (vec_items c.match-pick.all) w.in-Some.held
-          (ap vec_items w.all-is ∙ w.in-ok-push.ensures.items) w.in-Some.ensures
+          (ap vec_items w.all-is ∙ w.in_ok-push.ensures.items) w.in-Some.ensures
           ∙ c.loop-line.invariant
-      | in-default w ↦
+      | in_default w ↦
           picked_none pick lines c.loop-line.line-index so_far _ c.loop-line-test.true (vec_items c.match-pick.all)
-          (ap vec_items w.all-is) w.in-default.ensures
+          (ap vec_items w.all-is) w.in_default.ensures
           ∙ c.loop-line.invariant
     ]
 

@@ -11,21 +11,21 @@ returns-then-word-lt10 t c =
     let one = length_digit c.args.word c.if-word-lt10.true in
     record { place = omega arith; text = write_digit c.args.text.now c.args.place c.args.word c.if-word-lt10.true (omega arith) }
 
-pub put-digits-last-requires : goal.put-digits-last-requires
-put-digits-last-requires t c = omega (arith, length_more c.args.word c.if-word-lt10.false (omega arith))
+pub put_digits-last-requires : goal.put_digits-last-requires
+put_digits-last-requires t c = omega (arith, length_more c.args.word c.if-word-lt10.false (omega arith))
 
 pub bounds-text-last : goal.bounds-text-last
 bounds-text-last t c =
     let more = length_more c.args.word c.if-word-lt10.false (omega arith) in
-    omega (arith, length_overwritten c.args.text.now c.args.place (decimal (c.args.word / 10)) (omega arith), ap length c.put-digits-last.ensures.text)
+    omega (arith, length_overwritten c.args.text.now c.args.place (decimal (c.args.word / 10)) (omega arith), ap length c.put_digits-last.ensures.text)
 
-pub overflow-add-result-2 : goal.overflow-add-result-2
-overflow-add-result-2 t c = omega (arith, length_more c.args.word c.if-word-lt10.false (omega arith))
+pub overflow_add-result-2 : goal.overflow_add-result-2
+overflow_add-result-2 t c = omega (arith, length_more c.args.word c.if-word-lt10.false (omega arith))
 
 pub returns : goal.returns
 returns t c =
     let more = length_more c.args.word c.if-word-lt10.false (omega arith) in
     record {
       place = omega arith;
-      text = rw (c.put-digits-last.ensures.text, c.put-digits-last.ensures.place) (write_more c.args.text.now c.args.place c.args.word c.if-word-lt10.false (omega arith) c.requires);
+      text = rw (c.put_digits-last.ensures.text, c.put_digits-last.ensures.place) (write_more c.args.text.now c.args.place c.args.word c.if-word-lt10.false (omega arith) c.requires);
     }

@@ -21,7 +21,7 @@ loop-place-preserved c =
     let same : length after ≡ length c.loop-place.row = omega arith in
     let more = output_more trace c.loop-place.place rows c.loop-place.row after c.loop-place-test.true c.in-Ok.end c.in-Ok.ensures.all in
     let rest = output_from (length c.loop-place.row) (rows + 1) (lines (drop c.in-Ok.end trace)) in (
-      ap (λ (xs : List ℕ). xs ++ output_from (length after) (rows + 1) (lines (drop c.in-Ok.end trace))) c.in-ok-append-row.ensures
+      ap (λ (xs : List ℕ). xs ++ output_from (length after) (rows + 1) (lines (drop c.in-Ok.end trace))) c.in_ok-append_row-in-Ok.ensures
           ∙ ap (λ (n : ℕ). (out ++ row_bytes after) ++ output_from n (rows + 1) (lines (drop c.in-Ok.end trace))) same
           ∙ append_assoc out (row_bytes after) rest
           ∙ ap (λ (xs : List ℕ). out ++ xs) (sym more.0)
@@ -33,12 +33,12 @@ loop-place-preserved c =
 pub returns-in-Err : goal.returns-in-Err
 returns-in-Err c =
     let out = vec_items c.loop-place.out in
-    IfOk-weaker c.append-refusal.result _ _
+    IfOk-weaker c.append_refusal.result _ _
     (λ x e. e
     ∙ ap (λ (fault : Fault). out ++ refusal fault c.loop-place.rows) c.into.ensures
     ∙ ap (λ (xs : List ℕ). out ++ xs) (sym (output_stop c.args.trace.now c.loop-place.place c.loop-place.rows c.loop-place.row c.read.new.row c.loop-place-test.true c.in-Err.fault c.in-Err.ensures.all))
     ∙ c.loop-place.invariant.0)
-    c.append-refusal.ensures
+    c.append_refusal.ensures
 
 pub returns : goal.returns
 returns c =

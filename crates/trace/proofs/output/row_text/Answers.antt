@@ -10,14 +10,14 @@ use Rattle.trace.proofs.output.row_text.Goals as goal
 pub unwrap-requires : goal.unwrap-requires
 unwrap-requires c =
     let row = c.args.row.now in
-    let short = row_short row c.requires.0 (λ i. omega (arith, c.type-inv.row i)) in
+    let short = row_short row c.requires.0 (λ i. omega (arith, c.type_inv.row i)) in
     ap (λ (p : Result ℕ RowFault × List ℕ). is_ok p.0) (c.write.ensures.all ∙ write_fits row c.args.text.now c.requires.0 (omega arith))
 
 pub returns : goal.returns
 returns c =
     let row = c.args.row.now in
     let text = c.args.text.now in
-    let short = row_short row c.requires.0 (λ i. omega (arith, c.type-inv.row i)) in
+    let short = row_short row c.requires.0 (λ i. omega (arith, c.type_inv.row i)) in
     let wrote = c.write.ensures.all ∙ write_fits row text c.requires.0 (omega arith) in
     let answer : c.write.result ≡ Ok (length (row_bytes row)) = ap (λ (p : Result ℕ RowFault × List ℕ). p.0) wrote in
     let after : c.write.new.text ≡ overwritten text 0 (row_bytes row) = ap (λ (p : Result ℕ RowFault × List ℕ). p.1) wrote in

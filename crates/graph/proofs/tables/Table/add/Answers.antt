@@ -7,5 +7,5 @@ returns c =
     let table = c.args.self.now in
     record {
       size = refl;
-      cells = joined table.size table.cells.items c.args.row c.args.column c.place-place.result c.index-mut.result.now c.args.answer (sym table.cells.ok.0 ∙ table.square) c.requires.0 c.requires.1 c.place-place.ensures.value c.index-mut.ensures.value;
+      cells = joined table.size table.cells.items c.args.row c.args.column c.place-place.result c.index_mut.result.now c.args.answer (sym table.cells.ok.0 ∙ table.square) c.requires.0 c.requires.1 c.place-place.ensures.value c.index_mut.ensures.value;
     }

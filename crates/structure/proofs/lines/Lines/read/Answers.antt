@@ -5,6 +5,6 @@ use Rattle.structure.proofs.lines.Lines.read.Goals as goal
 pub returns : goal.returns
 returns c =
     record {
-      all = c.read-into.ensures;
-      exactly = exactly c.args.joinings c.args.text.now (c.read-into.result, lists_of c.read-into.new.lines) c.read-into.ensures;
+      all = c.read_into.ensures;
+      exactly = exactly c.args.joinings c.args.text.now (c.read_into.result, lists_of c.read_into.new.lines) c.read_into.ensures;
     }
