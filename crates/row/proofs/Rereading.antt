@@ -3,7 +3,7 @@ use Rattle.std.proofs.Common.{◌≡◌, ℕ, zero, suc, ◌+◌, ◌-◌, ◌*�
 use Rattle.std.proofs.lemmas.List.{append_assoc, length-append, length-map, take_at}
 use Rattle.std.proofs.lemmas.Bool.{and_parts, cond-true, eq-eqb, ne_eqb, leb-true}
 use Rattle.std.specs.Option.{option_map}
-use Rattle.std.specs.List.{AllByRecursion as All}
+use Rattle.std.specs.List.{AllByRecursion}
 use Rattle.text.proofs.Decimals.{length_word, spells_decimal}
 use Rattle.text.proofs.Parting.{fields_unique}
 use Rattle.text.proofs.Search.{position_append, position_neither, position_past}
@@ -20,7 +20,7 @@ use Rattle.row.proofs.Lengths.{length_row, spelled}
 use Rattle.row.proofs.Lines.{read_good}
 
 abbrev Words : List ℕ → Type 0
-Words ws = All (λ w. w < 2 ^ 32) ws
+Words ws = AllByRecursion (λ w. w < 2 ^ 32) ws
 
 words_from : (ws : List ℕ) → ((i : ℕ) → get_or ws i 0 < 2 ^ 32) → Words ws
 words_from [] h = tt
@@ -37,7 +37,7 @@ digits_lack byte (d ∷ ds) h e =
 decimal_lacks : (byte w : ℕ) → byte < 48 → w < 2 ^ 32 → position byte (decimal w) ≡ None
 decimal_lacks byte w h k = digits_lack byte (decimal w) h (spells_decimal w k).digits
 
-apart : (ws : List ℕ) → Words ws → All (λ f. position comma f ≡ None) (map decimal ws)
+apart : (ws : List ℕ) → Words ws → AllByRecursion (λ f. position comma f ≡ None) (map decimal ws)
 apart [] h = tt
 apart (w ∷ ws) h = (decimal_lacks comma w (omega arith) h.0, apart ws h.1)
 

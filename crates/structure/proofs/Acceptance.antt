@@ -6,7 +6,7 @@ use Rattle.std.proofs.lemmas.Bool.{cond-false, cond-true, eq-eqb, eqb-true}
 use Rattle.std.specs.Option.{option_map}
 use Rattle.linefile.proofs.Asking.{all_from_none, none_from_all}
 use Rattle.linefile.specs.Questions.{AllYes, first_no}
-use Rattle.std.specs.List.{AllByRecursion as All}
+use Rattle.std.specs.List.{AllByRecursion}
 use Rattle.structure.specs.Effects.{may_write, write_verdict}
 use Rattle.structure.specs.Lists.{Lists, before_effects, before_regions, before_states, before_transitions}
 use Rattle.structure.specs.Names.{effect_names, names_by_kind, region_names, state_names, transition_names, unnamed_at, variable_names}
@@ -39,7 +39,7 @@ no_number before None e = refl
 no_number before (Some n) e = let z : ◌≡◌ {A = ℕ} 0 1 = cc in absurd (omega arith)
 
 -- they accept together exactly where each does
-accepted : (vs : List Verdict) → Same (decided vs ≡ Ok tt) (All (λ v. v ≡ Ok tt) vs)
+accepted : (vs : List Verdict) → Same (decided vs ≡ Ok tt) (AllByRecursion (λ v. v ≡ Ok tt) vs)
 accepted [] = record { to = λ _. tt; from = λ _. refl }
 accepted (Ok u ∷ vs) = record { to = λ e. (refl, (accepted vs).to e); from = λ all. (accepted vs).from all.1 }
 accepted (Err fault ∷ vs) =

@@ -1,6 +1,6 @@
 -- The digits of a word, as they are written: how many there are, and that they spell it.
 use Rattle.std.proofs.Common.{◌≡◌, ℕ, ◌+◌, ◌/◌, ◌%◌, ◌^◌, ◌<◌, ◌≤◌, true, List, length, get_or, set, decimal, sym, ap, ◌∙◌, ⊎_elim, arith, rules}
-use Rattle.std.proofs.lemmas.Fmt.{decimal_digit, decimal_step, decimal_nonempty, decimal-digits_value as decimal-value, digits_decimal, first_decimal, length-decimal-le, digits_value-decimal}
+use Rattle.std.proofs.lemmas.Fmt.{decimal_digit, decimal_step, decimal_nonempty, decimal-digits_value, digits_decimal, first_decimal, length-decimal-le, digits_value-decimal}
 use Rattle.std.proofs.lemmas.List.{length_push}
 use Rattle.std.proofs.lemmas.Str.Parse.{IsNumeralModel, numerals_by_fold}
 use Rattle.std.proofs.lemmas.Bool.{cases_lt}
@@ -39,7 +39,7 @@ spells_decimal n h = record {
 
 pub decimal_from_spells : (text : List ℕ) (n : ℕ) → Spells text n → text ≡ decimal n
 decimal_from_spells text n s =
-    sym (decimal-value own text s.digits s.some s.no_leading_zero (let e = s.number in let k = s.small in omega arith)) ∙ ap decimal s.number
+    sym (decimal-digits_value own text s.digits s.some s.no_leading_zero (let e = s.number in let k = s.small in omega arith)) ∙ ap decimal s.number
 
 -- digits as they are written: the only one, or the last behind the others
 pub write_digit : (text : List ℕ) (place n : ℕ) → n < 10 → place < length text → set text place (48 + n) ≡ overwritten text place (decimal n)

@@ -3,7 +3,7 @@ use Rattle.std.proofs.Common.{◌≡◌, ℕ, zero, suc, ◌+◌, ◌-◌, ◌<�
 use Rattle.std.proofs.lemmas.List.{append-nil, drop-drop, take_at, take_rest}
 use Rattle.std.proofs.lemmas.Bool.{cases_lt, cond-true, eqb-true, le-leb}
 use Rattle.std.specs.Option.{option_map}
-use Rattle.std.specs.List.{AllByRecursion as All}
+use Rattle.std.specs.List.{AllByRecursion}
 use Rattle.text.specs.Fields.{Parted, after_commas, comma, fields, fields_from, next_place, onto_first, with_commas}
 use Rattle.text.specs.Parts.{first_from, position}
 use Rattle.text.proofs.Search.{first_none, found, here, later, not_found, position_append, position_past}
@@ -60,7 +60,7 @@ fields_whole (b ∷ bs) = go (eqb b comma) refl (fields_whole bs)
 
 -- no field holds a comma
 abbrev Apart : List (List ℕ) → Type 0
-Apart fs = All (λ f. position comma f ≡ None) fs
+Apart fs = AllByRecursion (λ f. position comma f ≡ None) fs
 
 apart_onto : (b : ℕ) (fs : List (List ℕ)) → eqb b comma ≡ false → Apart fs → Apart (onto_first b fs)
 apart_onto b [] t h = (position_past comma b [] t, tt)
@@ -87,7 +87,7 @@ fields_append f rest e =
     fields_cut (f ++ (comma ∷ rest)) (length f) (position_append comma f rest e)
     ∙ ap₂ (λ (x : List ℕ) (xs : List ℕ). x ∷ fields xs) (take_at f (comma ∷ rest) (length f) refl) (drop_past f comma rest)
 
-pub fields_unique : (fs : List (List ℕ)) → 0 < length fs → All (λ f. position comma f ≡ None) fs → fields (with_commas fs) ≡ fs
+pub fields_unique : (fs : List (List ℕ)) → 0 < length fs → AllByRecursion (λ f. position comma f ≡ None) fs → fields (with_commas fs) ≡ fs
 fields_unique [] some apart = absurd (omega arith)
 fields_unique (f ∷ []) some apart = ap fields (append-nil f) ∙ fields_last f apart.0
 fields_unique (f ∷ (g ∷ fs)) some apart =

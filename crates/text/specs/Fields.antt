@@ -1,7 +1,7 @@
 -- The fields of a line: its parts between commas, so that n commas part n + 1 fields.
 use Rattle.std.specs.Prelude.{◌≡◌, ℕ, ◌+◌, ◌<◌, cond, List, [], ◌∷◌, ◌++◌, length, drop, Some, None, Option, ◌==◌, nat_le}
 use Rattle.std.specs.Option.{option_map}
-use Rattle.std.specs.List.{AllByRecursion as All}
+use Rattle.std.specs.List.{AllByRecursion}
 use Rattle.text.specs.Parts.{first_from, position}
 
 abbrev pub comma : ℕ
@@ -20,7 +20,7 @@ with_commas (f ∷ fs) = f ++ after_commas fs
 pub record Parted (line : List ℕ) (fs : List (List ℕ)) : Type 0 where
   pub some : 0 < length fs
   pub whole : with_commas fs ≡ line
-  pub apart : All (λ f. position comma f ≡ None) fs
+  pub apart : AllByRecursion (λ f. position comma f ≡ None) fs
 
 abbrev pub onto_first : ℕ → List (List ℕ) → List (List ℕ)
 onto_first b [] = (b ∷ []) ∷ []

@@ -2,7 +2,7 @@
 use Rattle.std.proofs.Common.{◌≡◌, ℕ, suc, ◌+◌, ◌<◌, ◌≤◌, Bool, true, false, eqb, ltb, ◌⊎◌, List, [], ◌∷◌, ◌++◌, length, take, Some, Ok, Err, Result, sym, refl, ap, ◌∙◌, ap₂, inl, inr, ⊎_elim, arith}
 use Rattle.std.proofs.lemmas.List.{append_assoc, take_all}
 use Rattle.std.proofs.lemmas.Bool.{both_ways, cond-true, cond-false, lt-ltb, le-ltb}
-use Rattle.std.specs.List.{flat_map, AllByRecursion as All}
+use Rattle.std.specs.List.{flat_map, AllByRecursion}
 use Rattle.text.proofs.Search.{found, here, later, position_at, position_past}
 use Rattle.text.specs.Fields.{onto_first}
 use Rattle.text.specs.Parts.{position}
@@ -21,7 +21,7 @@ use Rattle.trace.specs.declared.faults.Fault.TheVariants.{Row, Trace}
 Ended : List ℕ → Type 0
 Ended line = (n : ℕ) → position newline line ≡ Some n → length line ≡ suc n
 
-onto_ended : (b : ℕ) → eqb b newline ≡ false → (ls : List (List ℕ)) → All Ended ls → All Ended (onto_first b ls)
+onto_ended : (b : ℕ) → eqb b newline ≡ false → (ls : List (List ℕ)) → AllByRecursion Ended ls → AllByRecursion Ended (onto_first b ls)
 unfolding Ended
 onto_ended b t [] h = ((λ n e. let z : ◌≡◌ {A = ℕ} 0 1 = cc (position_past newline b [] t) in absurd (omega arith)), tt)
 onto_ended b t (l ∷ ls) h = (
@@ -32,12 +32,12 @@ onto_ended b t (l ∷ ls) h = (
   h.1,
 )
 
-lines_ended : (text : List ℕ) → All Ended (lines text)
+lines_ended : (text : List ℕ) → AllByRecursion Ended (lines text)
 unfolding Ended
 lines_ended [] = tt
 lines_ended (b ∷ bs) = go (eqb b newline) refl (lines_ended bs)
   where
-    go : (t : Bool) → eqb b newline ≡ t → All Ended (lines bs) → All Ended (lines (b ∷ bs))
+    go : (t : Bool) → eqb b newline ≡ t → AllByRecursion Ended (lines bs) → AllByRecursion Ended (lines (b ∷ bs))
     go true t ih =
         rw (lines_end b bs t) ((λ n e. let z : n ≡ 0 = cc (position_at newline b [] t) in omega arith), ih)
     go false t ih = rw (lines_byte b bs t) (onto_ended b t (lines bs) ih)
@@ -63,7 +63,7 @@ Accepted width rows ls =
     (n : ℕ) × (rest : List ℕ) × (n ≤ length ls) × (output_from width rows ls ≡ flat_map (λ line. line) (take n ls) ++ rest)
     × (((rest ≡ []) × (n ≡ length ls)) ⊎ ((fault : Fault) × (rest ≡ refusal fault (rows + n))))
 
-accepted : (width rows : ℕ) (ls : List (List ℕ)) → All Ended ls → Accepted width rows ls
+accepted : (width rows : ℕ) (ls : List (List ℕ)) → AllByRecursion Ended ls → Accepted width rows ls
 accepted width rows [] h = (0, [], omega arith, refl, inl (refl, refl))
 accepted width rows (line ∷ ls) h = go (row_at line 0 width) refl (accepted width (suc rows) ls h.1)
   where
