@@ -1,7 +1,7 @@
 -- How many fields a line has, and how many are due.
-use Rattle.std.proofs.Common.{◌≡◌, ℕ, zero, suc, ◌+◌, ◌<◌, ◌≤◌, Bool, true, false, cond, eqb, ◌⊎◌, List, [], ◌∷◌, length, refl, inl, inr, arith}
-use Rattle.text.specs.Fields.{comma, fields, onto_first}
-use Rattle.row.specs.Reading.{fields_due}
+use Rattle.std.proofs.Common.{◌≡◌, ℕ, ◌+◌, ◌≤◌, Bool, true, false, cond, eqb, List, [], ◌∷◌, length, Some, arith}
+use Rattle.text.proofs.Parting.{from_within}
+use Rattle.text.specs.Fields.{comma, fields, fields_from, onto_first}
 
 -- each field but the first is behind a comma
 pub length_fields : (line : List ℕ) → length (fields line) ≤ length line + 1
@@ -16,12 +16,6 @@ length_fields (b ∷ bs) = go (eqb b comma) (length_fields bs)
     go true ih = omega arith
     go false ih = omega (arith, longer (fields bs))
 
--- a bare line with no word due has no field, and any other line has its fields
-pub due_bare : (due : ℕ) (line : List ℕ) → due ≡ 0 → line ≡ [] → fields_due due line ≡ []
-due_bare due line d e = rw (d, e)
-
-pub due_all : (due : ℕ) (line : List ℕ) → (0 < due) ⊎ (0 < length line) → fields_due due line ≡ fields line
-due_all zero [] (inl h) = absurd (omega arith)
-due_all zero [] (inr h) = absurd (omega arith)
-due_all zero (b ∷ bs) h = refl
-due_all (suc n) line h = refl
+-- the fields from the first place on are all
+pub all_fields : (line : List ℕ) → fields_from line (Some 0) ≡ fields line
+all_fields line = from_within line 0 (omega arith)

@@ -1,8 +1,7 @@
 pub mod Counting
 pub mod FieldWords
 pub mod Lengths
-pub mod Lines
+pub mod Readings
 pub mod Rereading
 pub mod Rewriting
 pub mod Tails
-pub mod Windows

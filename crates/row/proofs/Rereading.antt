@@ -16,8 +16,8 @@ use Rattle.row.specs.Reading.{field_words, fields_due, first_bad, line_at, line_
 use Rattle.row.specs.Rows.{most_bytes, newline, row_bytes}
 use Rattle.row.specs.Trips.{Rereads}
 use Rattle.row.proofs.FieldWords.{bad_later}
-use Rattle.row.proofs.Lengths.{length_row, spelled}
-use Rattle.row.proofs.Lines.{read_good}
+use Rattle.row.proofs.Lengths.{length_row, spelled, spelled_more}
+use Rattle.row.proofs.Readings.{read_good}
 
 abbrev Words : List ℕ → Type 0
 Words ws = AllByRecursion (λ w. w < 2 ^ 32) ws
@@ -55,7 +55,7 @@ content_lacks (w ∷ ws) h =
 -- a row of 64 words at most has 704 bytes at most
 spelled_short : (ws : List ℕ) → Words ws → spelled ws ≤ 11 * length ws
 spelled_short [] h = omega arith
-spelled_short (w ∷ ws) h = omega (arith, length_word w h.0, spelled_short ws h.1)
+spelled_short (w ∷ ws) h = omega (arith, spelled_more w ws, length_word w h.0, spelled_short ws h.1)
 
 pub row_short : (ws : List ℕ) → length ws ≤ 64 → ((i : ℕ) → get_or ws i 0 < 2 ^ 32) → length (row_bytes ws) ≤ 704
 row_short ws h fits = omega (arith, length_row ws, spelled_short ws (words_from ws fits))

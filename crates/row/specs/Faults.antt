@@ -1,7 +1,11 @@
--- The refusals of a row: each with its number, and its place where it has one.
+-- The refusals of a row: all of one layer, each with its number, and its place where it has one.
 use Rattle.std.specs.Prelude.{ℕ}
 use Rattle.row.specs.declared.faults.RowFault.{RowFault}
 use Rattle.row.specs.declared.faults.RowFault.TheVariants.{TooWide, Unended, FieldCount, NoNumber, NoRoom}
+
+-- a row is the third layer
+abbrev pub layer_of : RowFault → ℕ
+layer_of fault = 3
 
 abbrev pub number_of : RowFault → ℕ
 number_of TooWide = 15

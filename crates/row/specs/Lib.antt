@@ -1,5 +1,4 @@
 pub mod Faults
-pub mod Fronts
 pub mod Reading
 pub mod Rows
 pub mod Trips

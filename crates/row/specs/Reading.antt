@@ -38,6 +38,11 @@ unless_bad words (Some at) = Err (NoNumber at)
 abbrev pub field_words : List (List ℕ) → Result (List ℕ) RowFault
 field_words fs = unless_bad (words_of fs) (first_bad fs)
 
+-- words that were read, or the fault for which they were not
+abbrev pub words_or : Result (Unit {0}) RowFault → List ℕ → Result (List ℕ) RowFault
+words_or (Ok read) words = Ok words
+words_or (Err fault) words = Err fault
+
 -- the words of a line where so many are due
 abbrev pub line_words : ℕ → List ℕ → Result (List ℕ) RowFault
 line_words due line =

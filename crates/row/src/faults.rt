@@ -1,6 +1,7 @@
 //! What is refused of a row.
-ghost use Rattle.std.specs.Prelude.{◌≡◌};
-ghost use Rattle.row.specs.Faults.{number_of, place_of};
+ghost use Rattle.row.specs.Faults.{layer_of, number_of, place_of};
+
+use refusal::Refusal;
 
 /// Why a row is refused, with the place that the refusal tells.
 #[derive(Clone, Copy, PartialEq, Eq, Debug)]
@@ -17,11 +18,18 @@ pub enum RowFault {
     NoRoom,
 }
 
-impl RowFault {
-    /// The number of the question that got no.
-    pub fn number(self) -> u32
-        ensures { result ≡ number_of self }
-    {
+impl Refusal for RowFault {
+    ghost layer = { layer_of };
+
+    ghost number = { number_of };
+
+    ghost place = { place_of };
+
+    fn layer(self) -> u32 {
+        3
+    }
+
+    fn number(self) -> u32 {
         match self {
             RowFault::TooWide => 15,
             RowFault::Unended => 16,
@@ -31,10 +39,7 @@ impl RowFault {
         }
     }
 
-    /// The place that the refusal tells, 0 where it tells none.
-    pub fn place(self) -> u32
-        ensures { result ≡ place_of self }
-    {
+    fn place(self) -> u32 {
         match self {
             RowFault::FieldCount(found) => found,
             RowFault::NoNumber(at) => at,

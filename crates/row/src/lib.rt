@@ -3,10 +3,12 @@
 
 mod faults;
 mod limits;
+mod lines;
 mod reading;
 mod writing;
 
 pub use faults::RowFault;
-pub use limits::{MOST_BYTES, MOST_WORDS, NEWLINE};
+pub use limits::{MOST_BYTES, MOST_WORDS};
 pub use reading::{read, width};
+pub use text::NEWLINE;
 pub use writing::write;

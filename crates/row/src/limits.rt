@@ -5,6 +5,3 @@ pub const MOST_WORDS: usize = 64;
 
 /// The bytes of the longest row: 64 words of ten digits, 63 commas and byte 10.
 pub const MOST_BYTES: usize = 704;
-
-/// The byte that ends a row.
-pub const NEWLINE: u8 = b'\n';

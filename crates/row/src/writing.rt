@@ -1,24 +1,31 @@
 //! Writing a row into a text.
-ghost use Rattle.std.specs.Prelude.{◌≡◌, ◌+◌, ◌≤◌, ◌∷◌, length, IfOk, Ok, decimal};
+ghost use Rattle.std.specs.Prelude.{◌≡◌, ◌+◌, ◌≤◌, ◌∷◌, length, IfOk, Ok, decimal, sum_by};
 ghost use Rattle.text.specs.Parts.{overwritten};
 ghost use Rattle.row.specs.Rows.{most_words, row_bytes};
 ghost use Rattle.row.specs.Trips.{Rereads};
 ghost use Rattle.row.specs.Writing.{write_row};
 
 use crate::faults::RowFault;
-use crate::limits::{MOST_WORDS, NEWLINE};
-use text::{COMMA, word_len, write_word};
+use crate::limits::MOST_WORDS;
+use text::{COMMA, NEWLINE, word_len, write_word};
 
-// How many bytes the row has: each word with the byte behind it, and byte 10 alone for no word.
+// That a row is not too wide is asked of each step here and kept in no type: the row is the
+// caller's slice, and a type around it would be made anew for each call.
+
+// The bytes of the words, each with the byte behind it.
+fn spelled_len(row: &[u32]) -> usize
+    requires { length row.now ≤ most_words }
+    ensures { result ≡ sum_by (λ word. length (decimal word) + 1) row.now }
+{
+    row.iter().map(|word| word_len(*word) + 1).sum()
+}
+
+// How many bytes the row has: byte 10 alone for no word.
 fn row_len(row: &[u32]) -> usize
     requires { length row.now ≤ most_words }
     ensures { result ≡ length (row_bytes row.now) }
 {
-    let mut len = 0;
-    for word in row {
-        len += word_len(*word) + 1;
-    }
-    len.max(1)
+    spelled_len(row).max(1)
 }
 
 // A word's digits, which have room: the place after them.
@@ -37,6 +44,7 @@ fn put_words(first: u32, rest: &[u32], text: &mut [u8]) -> usize
     ensures text { text.new ≡ overwritten text.old 0 (row_bytes (first ∷ rest.now)) }
 {
     let mut place = put_word(first, text, 0);
+    // `place` counts bytes and not words, and only the bytes written tell it
     for word in rest {
         text[place] = COMMA;
         place = put_word(*word, text, place + 1);

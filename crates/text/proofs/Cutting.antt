@@ -1,5 +1,5 @@
 -- The lines of a text, one by one.
-use Rattle.std.proofs.Common.{◌≡◌, ℕ, suc, ◌<◌, true, false, eqb, List, [], ◌∷◌, length, take, drop, Some, None, ap, ◌∙◌, arith}
+use Rattle.std.proofs.Common.{◌≡◌, ℕ, suc, ◌+◌, ◌<◌, ◌≤◌, Bool, true, false, cond, eqb, List, [], ◌∷◌, length, take, drop, Some, None, ap, ◌∙◌, arith}
 use Rattle.text.specs.Fields.{onto_first}
 use Rattle.text.specs.Lines.{lines, newline}
 use Rattle.text.specs.Parts.{position}
@@ -26,3 +26,16 @@ lines_last (b ∷ []) h e = lines_byte b [] (not_found newline b [] e).0
 lines_last (b ∷ (c ∷ cs)) h e =
     let no = not_found newline b (c ∷ cs) e in
     lines_byte b (c ∷ cs) no.0 ∙ ap (onto_first b) (lines_last (c ∷ cs) (omega arith) no.1)
+
+-- each line has a byte
+pub length_lines : (text : List ℕ) → length (lines text) ≤ length text
+length_lines [] = omega arith
+length_lines (b ∷ bs) = go (eqb b newline) (length_lines bs)
+  where
+    longer : (ls : List (List ℕ)) → length (onto_first b ls) ≤ length ls + 1
+    longer [] = omega arith
+    longer (l ∷ ls) = omega arith
+
+    go : (t : Bool) → length (lines bs) ≤ length bs → length (cond t ((b ∷ []) ∷ lines bs) (onto_first b (lines bs))) ≤ length (b ∷ bs)
+    go true ih = omega arith
+    go false ih = omega (arith, longer (lines bs))

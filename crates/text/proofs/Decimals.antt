@@ -1,18 +1,12 @@
 -- The digits of a word, as they are written: how many there are, and that they spell it.
-use Rattle.std.proofs.Common.{◌≡◌, ℕ, ◌+◌, ◌/◌, ◌%◌, ◌^◌, ◌<◌, ◌≤◌, true, List, length, get_or, set, decimal, sym, ap, ◌∙◌, ⊎_elim, arith, rules}
-use Rattle.std.proofs.lemmas.Fmt.{decimal_digit, decimal_step, decimal_nonempty, decimal-digits_value, digits_decimal, first_decimal, length-decimal-le, digits_value-decimal}
-use Rattle.std.proofs.lemmas.List.{length_push}
+use Rattle.std.proofs.Common.{◌≡◌, ℕ, ◌^◌, ◌<◌, ◌≤◌, true, List, length, get_or, decimal, sym, ap, ◌∙◌, ⊎_elim, arith, rules}
+use Rattle.std.proofs.lemmas.Fmt.{decimal_digit, decimal_nonempty, decimal-digits_value, digits_decimal, first_decimal, length-decimal-le, digits_value-decimal}
 use Rattle.std.proofs.lemmas.Str.Parse.{IsNumeralModel, numerals_by_fold}
 use Rattle.std.proofs.lemmas.Bool.{cases_lt}
-use Rattle.text.specs.Parts.{overwritten}
 use Rattle.text.specs.Words.{Spells, all_digits, value, value_after}
-use Rattle.text.proofs.Overwriting.{overwritten_one, overwritten_push}
 
-pub length_digit : (n : ℕ) → n < 10 → length (decimal n) ≡ 1
+length_digit : (n : ℕ) → n < 10 → length (decimal n) ≡ 1
 length_digit n h = ap length (decimal_digit n h)
-
-pub length_more : (n : ℕ) → 10 ≤ n → n < 2 ^ 32 → length (decimal n) ≡ length (decimal (n / 10)) + 1
-length_more n h k = ap length (decimal_step n h (omega arith)) ∙ length_push (decimal (n / 10)) (48 + n % 10)
 
 -- a word has ten digits at most
 pub length_word : (n : ℕ) → n < 2 ^ 32 → length (decimal n) ≤ 10
@@ -40,12 +34,3 @@ spells_decimal n h = record {
 pub decimal_from_spells : (text : List ℕ) (n : ℕ) → Spells text n → text ≡ decimal n
 decimal_from_spells text n s =
     sym (decimal-digits_value own text s.digits s.some s.no_leading_zero (let e = s.number in let k = s.small in omega arith)) ∙ ap decimal s.number
-
--- digits as they are written: the only one, or the last behind the others
-pub write_digit : (text : List ℕ) (place n : ℕ) → n < 10 → place < length text → set text place (48 + n) ≡ overwritten text place (decimal n)
-write_digit text place n h k = overwritten_one text place (48 + n) k ∙ ap (overwritten text place) (sym (decimal_digit n h))
-
-pub write_more : (text : List ℕ) (place n : ℕ) → 10 ≤ n → n < 2 ^ 32 → place + length (decimal n) ≤ length text → set (overwritten text place (decimal (n / 10))) (place + length (decimal (n / 10))) (48 + n % 10) ≡ overwritten text place (decimal n)
-write_more text place n h k room =
-    overwritten_push text place (decimal (n / 10)) (48 + n % 10) (omega (arith, length_more n h k))
-    ∙ ap (overwritten text place) (sym (decimal_step n h (omega arith)))

@@ -1,12 +1,12 @@
 -- A line parted into its fields: what the first is, that the parts make the line, and that no other fields do.
-use Rattle.std.proofs.Common.{◌≡◌, ℕ, zero, suc, ◌+◌, ◌-◌, ◌<◌, ◌≤◌, Bool, true, false, eqb, leb, List, [], ◌∷◌, ◌++◌, length, take, drop, Some, None, Option, sym, refl, ap, ◌∙◌, ap₂, ⊎_elim, arith}
+use Rattle.std.proofs.Common.{◌≡◌, ℕ, zero, suc, ◌+◌, ◌-◌, ◌<◌, ◌≤◌, Bool, true, false, eqb, leb, List, [], ◌∷◌, ◌++◌, length, take, drop, Some, None, Option, sym, refl, ap, ◌∙◌, ap₂, arith}
 use Rattle.std.proofs.lemmas.List.{append-nil, drop-drop, take_at, take_rest}
-use Rattle.std.proofs.lemmas.Bool.{cases_lt, cond-true, eqb-true, le-leb}
+use Rattle.std.proofs.lemmas.Bool.{cond-true, eqb-true, le-leb}
 use Rattle.std.specs.Option.{option_map}
 use Rattle.std.specs.List.{AllByRecursion}
-use Rattle.text.specs.Fields.{Parted, after_commas, comma, fields, fields_from, next_place, onto_first, with_commas}
+use Rattle.text.specs.Fields.{Parted, after_commas, comma, fields, fields_from, onto_first, with_commas}
 use Rattle.text.specs.Parts.{first_from, position}
-use Rattle.text.proofs.Search.{first_none, found, here, later, not_found, position_append, position_past}
+use Rattle.text.proofs.Search.{found, here, later, not_found, position_append, position_past}
 
 fields_comma : (b : ℕ) (bs : List ℕ) → eqb b comma ≡ true → fields (b ∷ bs) ≡ [] ∷ fields bs
 fields_comma b bs t = rw (t, fields)
@@ -124,15 +124,3 @@ pub take_length : (n : ℕ) (xs : List ℕ) → take n xs ≡ take (length (take
 take_length zero xs = refl
 take_length (suc n) [] = refl
 take_length (suc n) (x ∷ xs) = ap (λ (ys : List ℕ). x ∷ ys) (take_length n xs)
-
--- where no field is left, none is left behind the next
-pub from_none : (text : List ℕ) (next : Option ℕ) → fields_from text next ≡ [] → fields_from text (next_place text next) ≡ []
-from_none text None e = refl
-from_none text (Some place) e =
-    ⊎_elim
-    (λ (h : length text < place). ap (λ (o : Option ℕ). fields_from text (option_map (λ at. at + 1) o)) (first_none comma text place (omega arith)))
-    (λ (h : place ≤ length text).
-    let some = fields_some (drop place text) in
-    let none : length (fields (drop place text)) ≡ 0 = ap length (sym (from_within text place h) ∙ e) in
-    absurd (omega arith))
-    (cases_lt (length text) place)

@@ -1,19 +1,17 @@
 -- Where the first such byte stands.
-use Rattle.std.proofs.Common.{◌≡◌, ℕ, zero, suc, ◌+◌, ◌<◌, ◌≤◌, Bool, true, false, eqb, List, [], ◌∷◌, ◌++◌, length, get_or, take, drop, Some, None, Option, sym, refl, ap, ◌∙◌, arith}
-use Rattle.std.proofs.lemmas.List.{at_drop_more, at_drop_all}
-use Rattle.std.proofs.lemmas.Bool.{eq-eqb, eqb-true, ne_eqb}
+use Rattle.std.proofs.Common.{◌≡◌, ℕ, zero, suc, ◌+◌, ◌<◌, ◌≤◌, Bool, true, false, eqb, ◌==◌, List, [], ◌∷◌, ◌++◌, ◌-◌, length, get_or, take, drop, Some, None, Option, MatchOption, sym, refl, ap, ◌∙◌, arith}
+use Rattle.std.proofs.lemmas.List.{get_or-drop, length-drop}
+use Rattle.std.proofs.lemmas.List.Quantifiers.{position-Some}
+use Rattle.std.proofs.lemmas.Bool.{eq-eqb, eqb-true}
+use Rattle.std.proofs.lemmas.Bool.Decides.{nat_tests}
 use Rattle.std.specs.Option.{option_map}
-use Rattle.text.specs.Parts.{position, first_from}
-
-shifted : (n : ℕ) (o : Option ℕ) → option_map (λ i. n + i) (option_map suc o) ≡ option_map (λ i. n + 1 + i) o
-shifted n None = refl
-shifted n (Some i) = ap Some (omega arith)
+use Rattle.text.specs.Parts.{Absent, First, first_from, position}
 
 pub position_at : (byte b : ℕ) (bs : List ℕ) → eqb b byte ≡ true → position byte (b ∷ bs) ≡ Some 0
-position_at byte b bs t = rw (t, position)
+position_at byte b bs t = grind (arith, nat_tests)
 
 pub position_past : (byte b : ℕ) (bs : List ℕ) → eqb b byte ≡ false → position byte (b ∷ bs) ≡ option_map suc (position byte bs)
-position_past byte b bs t = rw (t, position)
+position_past byte b bs t = grind (arith, nat_tests)
 
 -- where it stands in a list, seen from the first byte
 pub data Found (byte b : ℕ) (bs : List ℕ) (n : ℕ) : Type 0 where
@@ -35,6 +33,11 @@ not_found byte b bs e = go (eqb b byte) refl (position byte bs) refl
     go true t o p = let z : ◌≡◌ {A = ℕ} 0 1 = cc (position_at byte b bs t) in absurd (omega arith)
     go false t (Some m) p = let z : ◌≡◌ {A = ℕ} 0 1 = cc (position_past byte b bs t ∙ ap (option_map suc) p) in absurd (omega arith)
     go false t None p = (t, p)
+
+nowhere : {byte : ℕ} (xs : List ℕ) → position byte xs ≡ None → (k : ℕ) → k < length xs → get_or xs k 0 ≡ byte → ⊥
+nowhere [] e k h f = absurd (omega arith)
+nowhere {byte} (b ∷ bs) e zero h f = cc (sym (eq-eqb b byte f) ∙ (not_found byte b bs e).0)
+nowhere {byte} (b ∷ bs) e (suc k) h f = nowhere {byte = byte} bs (not_found byte b bs e).1 k (omega arith) f
 
 -- behind bytes that are others
 pub position_append : (byte : ℕ) (xs rest : List ℕ) → position byte xs ≡ None → position byte (xs ++ (byte ∷ rest)) ≡ Some (length xs)
@@ -58,23 +61,7 @@ position_found byte (b ∷ bs) n e = elim (found byte b bs n e) [
   | later m t p z ↦ let h = position_found byte bs m p in (omega (arith, h.0), rw z (ap (λ (ys : List ℕ). b ∷ ys) h.1))
 ]
 
--- in the front of a list: where it stands before the cut, and not where it stands behind
-pub position_within : (byte : ℕ) (xs : List ℕ) (n k : ℕ) → position byte xs ≡ Some n → n < k → position byte (take k xs) ≡ Some n
-position_within byte xs n zero e h = absurd (omega arith)
-position_within byte [] n (suc k) e h = e
-position_within byte (b ∷ bs) n (suc k) e h = elim (found byte b bs n e) [
-  | here t z ↦ position_at byte b (take k bs) t ∙ ap Some (sym z)
-  | later m t p z ↦ position_past byte b (take k bs) t ∙ ap (option_map suc) (position_within byte bs m k p (omega arith)) ∙ ap Some (sym z)
-]
-
-pub position_beyond : (byte : ℕ) (xs : List ℕ) (n k : ℕ) → position byte xs ≡ Some n → k ≤ n → position byte (take k xs) ≡ None
-position_beyond byte xs n zero e h = refl
-position_beyond byte [] n (suc k) e h = refl
-position_beyond byte (b ∷ bs) n (suc k) e h = elim (found byte b bs n e) [
-  | here t z ↦ absurd (omega arith)
-  | later m t p z ↦ position_past byte b (take k bs) t ∙ ap (option_map suc) (position_beyond byte bs m k p (omega arith))
-]
-
+-- where it stands in the front of a list, it stands in the list
 pub position_back : (byte : ℕ) (xs : List ℕ) (n k : ℕ) → position byte (take k xs) ≡ Some n → position byte xs ≡ Some n
 position_back byte xs n zero e = let z : ◌≡◌ {A = ℕ} 0 1 = cc in absurd (omega arith)
 position_back byte [] n (suc k) e = e
@@ -83,17 +70,24 @@ position_back byte (b ∷ bs) n (suc k) e = elim (found byte b (take k bs) n e) 
   | later m t p z ↦ position_past byte b bs t ∙ ap (option_map suc) (position_back byte bs m k p) ∙ ap Some (sym z)
 ]
 
--- the steps of the search
-module _ (byte : ℕ) (text : List ℕ) (at : ℕ) where
-  pub first_here : at < length text → get_or text at 0 ≡ byte → first_from byte text at ≡ Some at
-  first_here h e =
-      ap (option_map (λ i. at + i)) (at_drop_more (position byte) text at 0 h ∙ position_at byte (get_or text at 0) (drop (at + 1) text) (eq-eqb (get_or text at 0) byte e))
-      ∙ ap Some (omega arith)
+-- the search from a place on
+module _ (byte : ℕ) (text : List ℕ) (from : ℕ) where
+  away : (k : ℕ) → from ≤ k → get_or text k 0 ≡ byte → get_or (drop from text) (k - from) 0 ≡ byte
+  away k after e = let same : from + (k - from) ≡ k = omega arith in get_or-drop from text (k - from) 0 ∙ ap (λ n. get_or text n 0) same ∙ e
 
-  pub first_later : at < length text → (get_or text at 0 ≡ byte → ⊥) → first_from byte text at ≡ first_from byte text (at + 1)
-  first_later h n =
-      ap (option_map (λ i. at + i)) (at_drop_more (position byte) text at 0 h ∙ position_past byte (get_or text at 0) (drop (at + 1) text) (ne_eqb (get_or text at 0) byte n))
-      ∙ shifted at (position byte (drop (at + 1) text))
+  there : (n : ℕ) → position byte (drop from text) ≡ Some n → First byte text from (from + n)
+  there n e =
+      let found = position-Some (λ b. b == byte) (drop from text) n 0 e in
+      record {
+        after = omega arith;
+        within = omega (arith, found.0, length-drop from text);
+        there = sym (get_or-drop from text n 0) ∙ eqb-true (get_or (drop from text) n 0) byte found.1;
+        none_before = λ k after before e. cc (sym (eq-eqb (get_or (drop from text) (k - from) 0) byte (away k after e)) ∙ found.2 (k - from) (omega arith));
+      }
 
-  pub first_none : length text ≤ at → first_from byte text at ≡ None
-  first_none h = ap (option_map (λ i. at + i)) (at_drop_all (position byte) text at h)
+  pub first_is : (answer : Option ℕ) → answer ≡ first_from byte text from → MatchOption answer (Absent byte text from) (First byte text from)
+  first_is answer e = rw e (go (position byte (drop from text)) refl)
+    where
+      go : (o : Option ℕ) → position byte (drop from text) ≡ o → MatchOption (option_map (λ n. from + n) o) (Absent byte text from) (First byte text from)
+      go None p = λ k after within f. nowhere (drop from text) p (k - from) (omega (arith, length-drop from text)) (away k after f)
+      go (Some n) p = there n p

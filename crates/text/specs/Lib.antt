@@ -2,3 +2,4 @@ pub mod Fields
 pub mod Lines
 pub mod Parts
 pub mod Words
+pub mod Unread

@@ -1,11 +1,11 @@
 -- Parts of a text: where a byte stands, and bytes written at a place.
-use Rattle.std.specs.Prelude.{◌≡◌, ℕ, suc, ◌+◌, ◌<◌, ◌≤◌, cond, List, [], ◌∷◌, ◌++◌, length, take, drop, Some, None, Option, ◌==◌, ◌≢◌, nat_le, slice_index, slice_index_or}
+use Rattle.std.specs.Prelude.{◌≡◌, ℕ, ◌+◌, ◌<◌, ◌≤◌, cond, List, ◌++◌, length, take, drop, Some, None, Option, ◌==◌, ◌≢◌, nat_le, slice_index, slice_index_or}
+use Rattle.std.specs.List.{position as first_index}
 use Rattle.std.specs.Option.{option_map}
 
 -- how many bytes stand before the first such byte, if there is one
 abbrev pub position : ℕ → List ℕ → Option ℕ
-position byte [] = None
-position byte (b ∷ bs) = cond (b == byte) (Some 0) (option_map suc (position byte bs))
+position byte text = first_index (λ b. b == byte) text
 
 -- It is the place of the first such byte at or after a place.
 pub record First (byte : ℕ) (text : List ℕ) (from at : ℕ) : Type 0 where

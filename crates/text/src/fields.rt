@@ -24,12 +24,14 @@ pub struct Fields<'a> {
 }
 
 impl<'a> Fields<'a> {
+    ghost use Rattle.text.specs.Unread.{unread};
+
     /// The fields of the line that begins at a place and ends with the text.
     pub fn new(text: &'a [u8], place: usize) -> Fields<'a>
         ensures text { result.text.now ≡ text.now }
-        ensures fields { fields_from result.text.now result.next ≡ fields_from text.now (Some place) }
-        ensures parted { place ≤ length text.now → Parted (drop place text.now) (fields_from result.text.now result.next) }
-        ensures only { place ≤ length text.now → (fs : List (List ℕ)) → Parted (drop place text.now) fs → fs ≡ fields_from result.text.now result.next }
+        ensures fields { unread result ≡ fields_from text.now (Some place) }
+        ensures parted { place ≤ length text.now → Parted (drop place text.now) (unread result) }
+        ensures only { place ≤ length text.now → (fs : List (List ℕ)) → Parted (drop place text.now) fs → fs ≡ unread result }
     {
         if place > text.len() {
             return Fields { text, next: None };
@@ -44,7 +46,7 @@ impl<'a> Fields<'a> {
     fn cut_field(&mut self, place: usize) -> Field<'a>
         requires { self.old.next ≡ Some place }
         ensures text { self.new.text.now ≡ self.old.text.now }
-        ensures field { fields_from self.old.text.now self.old.next ≡ result.text.now ∷ fields_from self.new.text.now self.new.next }
+        ensures field { unread self.old ≡ result.text.now ∷ unread self.new }
         ensures place { (result.place ≡ place) × (result.text.now ≡ take (length result.text.now) (drop place self.old.text.now)) }
         ensures next { self.new.next ≡ next_place self.old.text.now self.old.next }
     {
@@ -69,11 +71,26 @@ impl<'a> Fields<'a> {
     /// The next field: the part up to the next comma, or to the end of the text.
     pub fn next_field(&mut self) -> Option<Field<'a>>
         ensures text { self.new.text.now ≡ self.old.text.now }
-        ensures field { MatchOption result (fields_from self.old.text.now self.old.next ≡ []) (λ f. fields_from self.old.text.now self.old.next ≡ f.text.now ∷ fields_from self.new.text.now self.new.next) }
+        ensures field { MatchOption result ((unread self.old ≡ []) × (unread self.new ≡ [])) (λ f. unread self.old ≡ f.text.now ∷ unread self.new) }
         ensures place { IfSome result (λ f. (self.old.next ≡ Some f.place) × (f.text.now ≡ take (length f.text.now) (drop f.place self.old.text.now))) }
         ensures next { self.new.next ≡ next_place self.old.text.now self.old.next }
     {
         let place = self.next?;
         Some(self.cut_field(place))
+    }
+}
+
+impl<'a> Iterator for Fields<'a> {
+    ghost use Rattle.std.specs.Iterator.{YieldsFirstBy, item_count};
+    ghost use Rattle.text.specs.Unread.{unread};
+
+    type Item = Field<'a>;
+
+    ghost next_gives = { YieldsFirstBy (λ f. f.text.now) unread };
+
+    ghost remaining = { item_count unread };
+
+    fn next(&mut self) -> Option<Field<'a>> {
+        self.next_field()
     }
 }

@@ -1,7 +1,9 @@
 //! A word as text: decimal digits without a leading zero.
-ghost use Rattle.std.specs.Prelude.{◌≡◌, ℕ, ◌+◌, ◌≤◌, [], ◌∷◌, length, Some, decimal};
-ghost use Rattle.text.specs.Parts.{overwritten, put};
+ghost use Rattle.std.specs.Prelude.{◌≡◌, ℕ, ◌≤◌, ◌∷◌, [], length, Some, decimal};
+ghost use Rattle.text.specs.Parts.{put};
 ghost use Rattle.text.specs.Words.{Spells, digits_in, word_in};
+
+use itoa::Buffer;
 
 // One digit more behind `word`, where the byte is a digit and the number stays a word.
 fn add_digit(word: u32, byte: u8) -> Option<u32>
@@ -34,49 +36,24 @@ pub fn parse_word(text: &[u8]) -> Option<u32>
     }
 }
 
-fn digit_count(word: u32) -> usize
-    ensures value { result ≡ length (decimal word) }
-    ensures bound { result ≤ 10 }
-{
-    if word < 10 {
-        1
-    } else {
-        digit_count(word / 10) + 1
-    }
-}
-
 /// How many digits the word has.
 pub fn word_len(word: u32) -> usize
     ensures value { result ≡ length (decimal word) }
     ensures bound { result ≤ 10 }
 {
-    digit_count(word)
+    Buffer::new().format(word).len()
 }
 
-// The digits of the word from `place` on, which have room there.
-fn put_digits(word: u32, text: &mut [u8], place: usize) -> usize
-    requires { place + length (decimal word) ≤ length text.old }
-    ensures place { result ≡ place + length (decimal word) }
-    ensures text { text.new ≡ overwritten text.old place (decimal word) }
+// Bytes written at a place, if they have room there.
+fn put_bytes(bytes: &[u8], text: &mut [u8], place: usize) -> Option<usize>
+    ensures { (result, text.new) ≡ put bytes.now text.old place }
 {
-    if word < 10 {
-        text[place] = b'0' + word as u8;
-        return place + 1;
-    }
-    let last = put_digits(word / 10, text, place);
-    text[last] = b'0' + (word % 10) as u8;
-    last + 1
-}
-
-// The word's digits at a place, if they have room there.
-fn write_digits(word: u32, text: &mut [u8], place: usize) -> Option<usize>
-    ensures all { (result, text.new) ≡ put (decimal word) text.old place }
-    ensures digits { Spells (decimal word) word }
-{
-    if word_len(word) > text.len().saturating_sub(place) {
+    let end = place.checked_add(bytes.len())?;
+    if end > text.len() {
         return None;
     }
-    Some(put_digits(word, text, place))
+    text[place..end].copy_from_slice(bytes);
+    Some(end)
 }
 
 /// Writes the word's digits at a place: the place after them, or nothing where they do not fit.
@@ -84,5 +61,6 @@ pub fn write_word(word: u32, text: &mut [u8], place: usize) -> Option<usize>
     ensures all { (result, text.new) ≡ put (decimal word) text.old place }
     ensures digits { Spells (decimal word) word }
 {
-    write_digits(word, text, place)
+    let mut digits = Buffer::new();
+    put_bytes(digits.format(word).as_bytes(), text, place)
 }
