@@ -1,6 +1,5 @@
-pub mod Cells
 pub mod Counts
 pub mod Loops
+pub mod Passes
 pub mod Reaching
-pub mod Readings
-pub mod Rows
+pub mod Squares

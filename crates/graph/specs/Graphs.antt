@@ -1,8 +1,8 @@
 -- A graph on the numbers below n: what follows what, what reaches what, and ranks that rise along it.
-use Rattle.std.specs.Prelude.{◌≡◌, ℕ, zero, suc, ◌<◌, Bool, true, cond, ◌&&◌, ◌||◌, List, length, Some, None, vec_items, Option, nat_lt, slice_index}
-use Rattle.std.specs.Option.{option_or}
-use Rattle.graph.specs.declared.ranking.Ranking.{Ranking}
-use Rattle.graph.specs.declared.ranking.Ranking.TheVariants.{Ranks, Loop}
+use Rattle.std.specs.Prelude.{◌≡◌, ℕ, zero, suc, ◌<◌, Bool, true, ◌&&◌, ◌||◌, List, length, find, Some, None, Ok, Err, Option, Result, nat_lt, slice_index}
+use Rattle.std.specs.List.{range_with_len}
+use Rattle.graph.specs.declared.ranking.Unranked.{Unranked}
+use Rattle.graph.specs.declared.ranking.Unranked.TheVariants.{Loop, Memory}
 
 -- The node b is a follower of the node a. What the graph tells of other numbers counts for nothing.
 pub record Follower (n : ℕ) (follows : ℕ → ℕ → Bool) (a b : ℕ) : Type 0 where
@@ -28,14 +28,9 @@ via n follows (suc k) a b = by_way_of k (via n follows k) a b
 abbrev pub reaches : ℕ → (ℕ → ℕ → Bool) → ℕ → ℕ → Bool
 reaches n follows a b = via n follows n a b
 
--- the lowest number below n that passes a test
-abbrev pub lowest_passing : (ℕ → Bool) → ℕ → Option ℕ
-lowest_passing test zero = None
-lowest_passing test (suc n) = option_or (lowest_passing test n) (cond (test n) (Some n) None)
-
 -- The lowest node that reaches itself, if there is one.
 abbrev pub lowest_loop : ℕ → (ℕ → ℕ → Bool) → Option ℕ
-lowest_loop n follows = lowest_passing (λ node. reaches n follows node node) n
+lowest_loop n follows = find (λ node. reaches n follows node node) (range_with_len 0 n)
 
 -- The node reaches itself and no lower one does; or, of no node, none does.
 abbrev pub Lowest : ℕ → (ℕ → ℕ → Bool) → Option ℕ → Type 0
@@ -47,11 +42,14 @@ pub record Ranked (n : ℕ) (follows : ℕ → ℕ → Bool) (ranks : List ℕ) 
   pub count : length ranks ≡ n
   pub rise : (a b : ℕ) → Follower n follows a b → slice_index ranks a < slice_index ranks b
 
--- The node that a ranking gives in place of ranks.
-abbrev pub loop_of : Ranking → Option ℕ
-loop_of (Ranks ranks) = None
-loop_of (Loop node) = Some node
+-- The node on a loop that an answer tells in place of ranks.
+abbrev pub loop_of : {T : Type 0} → Result T Unranked → Option ℕ
+loop_of (Ok ranks) = None
+loop_of (Err (Loop node)) = Some node
+loop_of (Err (Memory short)) = None
 
-abbrev pub RanksRise : ℕ → (ℕ → ℕ → Bool) → Ranking → Type 0
-RanksRise n follows (Ranks ranks) = Ranked n follows (vec_items ranks)
-RanksRise n follows (Loop node) = Unit {0}
+-- The fact holds unless memory is short.
+abbrev pub UnlessShort : {T : Type 0} → Result T Unranked → Type 0 → Type 0
+UnlessShort (Ok ranks) P = P
+UnlessShort (Err (Loop node)) P = P
+UnlessShort (Err (Memory short)) P = Unit {0}

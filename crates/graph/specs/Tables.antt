@@ -1,35 +1,32 @@
--- A table of n rows of n cells, one row behind another, and what is read off from it.
-use Rattle.std.specs.Prelude.{◌≡◌, ℕ, zero, suc, ◌+◌, ◌*◌, ◌<◌, Bool, true, false, cond, ◌&&◌, ◌||◌, List, length, Some, None, vec_items, Option, ◌==◌, slice_index, slice_index_or}
-use Rattle.graph.specs.declared.ranking.Ranking.{Ranking}
-use Rattle.graph.specs.declared.ranking.Ranking.TheVariants.{Ranks, Loop}
+-- A table of n rows of n cells, and what is read off from it.
+use Rattle.std.specs.Prelude.{◌≡◌, ℕ, Bool, false, ◌&&◌, ◌||◌, List, [], length, map, slice_index_or, count_by, All}
+use Rattle.std.specs.List.{range_with_len}
 
-abbrev pub cell : ℕ → List Bool → ℕ → ℕ → Bool
-cell n cells a b = slice_index_or cells (a * n + b) false
+-- a row of n cells, where each says what a test does
+abbrev pub row_of : ℕ → (ℕ → Bool) → List Bool
+row_of n test = map test (range_with_len 0 n)
 
--- each cell says what a test does
-abbrev pub Holds : ℕ → List Bool → (ℕ → ℕ → Bool) → Type 0
-Holds n cells test = (a b : ℕ) → a < n → b < n → cell n cells a b ≡ test a b
+-- n rows of n cells, where each says what a test does
+abbrev pub square : ℕ → (ℕ → ℕ → Bool) → List (List Bool)
+square n test = map (λ a. row_of n (test a)) (range_with_len 0 n)
 
--- a test that passes in a row also where the row's own test does
-abbrev pub with_row : (ℕ → ℕ → Bool) → ℕ → (ℕ → Bool) → ℕ → ℕ → Bool
-with_row test row adds a b = test a b || (a == row && adds b)
+-- each row has as many cells as there are rows
+abbrev pub IsSquare : List (List Bool) → Type 0
+IsSquare rows = All (λ row. length row ≡ length rows) rows
 
--- the lowest number below n that passes a test, or that none does
-abbrev pub LowestPassing : (ℕ → Bool) → ℕ → Option ℕ → Type 0
-LowestPassing test n (Some a) = (a < n) × (test a ≡ true) × ((lower : ℕ) → lower < a → test lower ≡ false)
-LowestPassing test n None = (a : ℕ) → a < n → test a ≡ false
+abbrev pub marked : List Bool → ℕ → Bool
+marked row b = slice_index_or row b false
 
--- how many numbers below n pass a test
-abbrev pub tally : (ℕ → Bool) → ℕ → ℕ
-tally test zero = 0
-tally test (suc n) = tally test n + cond (test n) 1 0
+abbrev pub cell : List (List Bool) → ℕ → ℕ → Bool
+cell rows a b = marked (slice_index_or rows a []) b
 
--- for each column, how many of its cells are marked
-pub record ColumnCounts (n : ℕ) (cells : List Bool) (counts : List ℕ) : Type 0 where
-  pub count : length counts ≡ n
-  pub each : (b : ℕ) → b < n → slice_index counts b ≡ tally (λ a. cell n cells a b) n
+-- what a row is once it goes on by way of a node
+abbrev pub gone_on : ℕ → List Bool → List Bool → List Bool
+gone_on node through row = row_of (length row) (λ b. marked row b || (marked row node && marked through b))
 
--- ranks, where a ranking gives them, are the counts of the columns
-abbrev pub RanksCount : ℕ → List Bool → Ranking → Type 0
-RanksCount n cells (Ranks ranks) = ColumnCounts n cells (vec_items ranks)
-RanksCount n cells (Loop node) = Unit {0}
+-- how many rows have a node marked
+abbrev pub column_count : List (List Bool) → ℕ → ℕ
+column_count rows node = count_by (λ row. marked row node) rows
+
+abbrev pub column_counts : List (List Bool) → List ℕ
+column_counts rows = map (column_count rows) (range_with_len 0 (length rows))

@@ -3,7 +3,8 @@
 
 mod graphs;
 mod ranking;
+mod rows;
 mod tables;
 
 pub use graphs::Graph;
-pub use ranking::{Ranking, rank};
+pub use ranking::{Unranked, rank};

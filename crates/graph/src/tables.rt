@@ -1,99 +1,76 @@
-//! Answers for pairs of nodes, in a square table.
-ghost use Rattle.std.specs.Prelude.{◌≡◌, ◌+◌, ◌*◌, ◌<◌, false, ◌&&◌, IfOk, vec_len, ◌==◌};
-ghost use Rattle.graph.specs.Graphs.{by_way_of, reaches};
-ghost use Rattle.graph.specs.Tables.{Holds, cell, with_row};
+//! What reaches what, in a square table.
+ghost use Rattle.std.specs.Prelude.{◌≡◌, ◌<◌, length, find, IfOk};
+ghost use Rattle.std.specs.List.{range_with_len};
+ghost use Rattle.graph.specs.Graphs.{reaches};
+ghost use Rattle.graph.specs.Tables.{cell, column_count, column_counts, square};
 
+use crate::graphs::Graph;
+use crate::rows::{Row, pass};
 use std::alloc::{AllocError, Global};
+use std::marker::Model;
 
-/// A cell for each pair of nodes, one row behind another. A cell is marked where the answer is yes.
+/// A row for each node.
 #[derive(Drop)]
-pub struct Table {
-    cells: Vec<bool>,
-    pub size: usize,
-    ghost square: { vec_len cells ≡ size * size },
+pub(crate) struct Table {
+    rows: Vec<Row>,
+}
+
+// Clauses see the rows.
+impl Model for Table {
+    ghost use Rattle.std.specs.Prelude.{Bool, List};
+    ghost use Rattle.graph.specs.Tables.{IsSquare};
+
+    ghost Value = { List (List Bool) };
+
+    ghost view = { λ table. table.rows.items };
+
+    ghost invariant = { λ table. IsSquare table.rows.items };
 }
 
 impl Table {
-    // A table with no cell marked. No memory could hold more cells than a `usize` counts.
-    pub(crate) fn new(heap: Global, size: usize) -> Result<Table, AllocError>
-        ensures { IfOk result (λ t. (t.size ≡ size) × Holds size t.cells.items (λ _ _. false)) }
-    {
-        let Some(count) = size.checked_mul(size) else {
-            return Err(AllocError);
-        };
-        Ok(Table {
-            cells: vec![in heap; false; count]?,
-            size,
-        })
-    }
-
-    fn place(&self, row: usize, column: usize) -> usize
-        requires { (row < self.now.size) × (column < self.now.size) }
-        ensures value { result ≡ row * self.now.size + column }
-        ensures within { result < vec_len self.now.cells }
-    {
-        row * self.size + column
-    }
-
-    // Is the cell marked?
-    pub(crate) fn cell(&self, row: usize, column: usize) -> bool
-        requires { (row < self.now.size) × (column < self.now.size) }
-        ensures { result ≡ cell self.now.size self.now.cells.items row column }
-    {
-        self.cells[self.place(row, column)]
-    }
-
-    // Marks the cell where the answer is yes.
-    pub(crate) fn add(&mut self, row: usize, column: usize, answer: bool)
-        requires { (row < self.old.size) × (column < self.old.size) }
-        ensures size { self.new.size ≡ self.old.size }
-        ensures cells { Holds self.old.size self.new.cells.items (with_row (cell self.old.size self.old.cells.items) row (λ b. (b == column) && answer)) }
-    {
-        let place = self.place(row, column);
-        self.cells[place] |= answer;
-    }
-
-    // Marks in a row what another has marked.
-    fn add_row(&mut self, row: usize, other: usize)
-        requires { (row < self.old.size) × (other < self.old.size) }
-        ensures size { self.new.size ≡ self.old.size }
-        ensures cells { Holds self.old.size self.new.cells.items (with_row (cell self.old.size self.old.cells.items) row (cell self.old.size self.old.cells.items other)) }
-    {
-        for column in 0..self.size {
-            self.add(row, column, self.cell(other, column));
-        }
-    }
-
-    // A node that reaches the other reaches what the other does.
-    fn add_reached(&mut self, row: usize, other: usize)
-        requires { (row < self.old.size) × (other < self.old.size) }
-        ensures size { self.new.size ≡ self.old.size }
-        ensures cells { Holds self.old.size self.new.cells.items (with_row (cell self.old.size self.old.cells.items) row (λ b. cell self.old.size self.old.cells.items row other && cell self.old.size self.old.cells.items other b)) }
-    {
-        if self.cell(row, other) {
-            self.add_row(row, other);
-        }
-    }
-
-    // Each node goes on by way of one node. That node's own row and column stay as they are, so
-    // the pass may read them while it writes.
-    fn pass(&mut self, node: usize)
-        requires { node < self.old.size }
-        ensures size { self.new.size ≡ self.old.size }
-        ensures cells { Holds self.old.size self.new.cells.items (by_way_of node (cell self.old.size self.old.cells.items)) }
-    {
-        for row in 0..self.size {
-            self.add_reached(row, node);
-        }
-    }
-
     // From what follows what to what reaches what.
-    pub(crate) fn close(&mut self)
-        ensures size { self.new.size ≡ self.old.size }
-        ensures cells { Holds self.old.size self.new.cells.items (reaches self.old.size (cell self.old.size self.old.cells.items)) }
+    pub(crate) fn of<G: Graph>(heap: Global, graph: &G) -> Result<Table, AllocError>
+        ensures { IfOk result (λ table. let n = G.nodes graph.now in
+            table ≡ square n (reaches n (G.follows graph.now))) }
     {
-        for node in 0..self.size {
-            self.pass(node);
+        let size = graph.node_count();
+        let mut rows: Vec<Row> = (0..size)
+            .map(|node| Row::of(heap, graph, node))
+            .try_collect(heap)?;
+        // one node after another, as each pass reads what the passes before it wrote
+        for node in 0..size {
+            pass(&mut rows, node);
         }
+        Ok(Table { rows })
+    }
+
+    fn reaches_itself(&self, node: usize) -> bool
+        requires { node < length self.now }
+        ensures { result ≡ cell self.now node node }
+    {
+        self.rows[node].is_marked(node)
+    }
+
+    pub(crate) fn lowest_loop(&self) -> Option<usize>
+        ensures { result ≡ find (λ a. cell self.now a a) (range_with_len 0 (length self.now)) }
+    {
+        (0..self.rows.len()).find(|&node| self.reaches_itself(node))
+    }
+
+    // How many nodes reach the node.
+    fn column_count(&self, node: usize) -> usize
+        requires { node < length self.now }
+        ensures { result ≡ column_count self.now node }
+    {
+        self.rows.iter().filter(|row| row.is_marked(node)).count()
+    }
+
+    // For each node, how many nodes reach it.
+    pub(crate) fn column_counts(&self, heap: Global) -> Result<Vec<usize>, AllocError>
+        ensures { IfOk result (λ counts. counts.items ≡ column_counts self.now) }
+    {
+        (0..self.rows.len())
+            .map(|node| self.column_count(node))
+            .collect(heap)
     }
 }
