@@ -3,6 +3,10 @@ use Rattle.std.specs.Prelude.{ℕ}
 use Rattle.faults.specs.declared.lines.LineFault.{LineFault}
 use Rattle.faults.specs.declared.lines.LineFault.TheVariants.{Letter, Fields, Number, Limit}
 
+-- a line is the first layer
+abbrev pub layer_of : LineFault → ℕ
+layer_of fault = 1
+
 abbrev pub number_of : LineFault → ℕ
 number_of (Letter line) = 2
 number_of (Fields line) = 3

@@ -1,13 +1,14 @@
 //! What is refused of a chart.
 ghost use Rattle.std.specs.Prelude.{◌≡◌};
-ghost use Rattle.faults.specs.ChartFaults.{chart_fault, number_of, place_of};
+ghost use Rattle.faults.specs.ChartFaults.{chart_fault, layer_of, number_of, place_of};
 ghost use Rattle.faults.specs.declared.charts.ChartFault.TheVariants.{Line, Memory};
 
 use crate::lines::{FileFault, LineFault};
+use refusal::Refusal;
 use std::alloc::AllocError;
 
 /// Why a chart is refused, with the line that the refusal tells, counted from 0.
-#[derive(Clone, Copy)]
+#[derive(Clone, Copy, PartialEq, Eq, Debug)]
 pub enum ChartFault {
     /// The file has more than 32,768 bytes, or does not end with byte 10.
     File,
@@ -28,9 +29,10 @@ pub enum ChartFault {
     /// The effect may not write its variable so.
     Write(u32),
     /// No memory was found: no question got no.
-    Memory,
+    Memory(AllocError),
 }
 
+// By hand, as a derived `From` would not say which fault it makes.
 impl From<LineFault> for ChartFault {
     ghost from_gives = { λ e r. r ≡ Line e };
 
@@ -40,10 +42,10 @@ impl From<LineFault> for ChartFault {
 }
 
 impl From<AllocError> for ChartFault {
-    ghost from_gives = { λ _ r. r ≡ Memory };
+    ghost from_gives = { λ e r. r ≡ Memory e };
 
-    fn from(_: AllocError) -> ChartFault {
-        Self::Memory
+    fn from(short: AllocError) -> ChartFault {
+        ChartFault::Memory(short)
     }
 }
 
@@ -54,16 +56,26 @@ impl From<FileFault> for ChartFault {
         match below {
             FileFault::Bytes => ChartFault::File,
             FileFault::Line(fault) => fault.into(),
-            FileFault::Memory => ChartFault::Memory,
+            FileFault::Memory(short) => short.into(),
         }
     }
 }
 
-impl ChartFault {
-    /// The number of the question that got no, 0 where none did.
-    pub fn number(self) -> u32
-        ensures { result ≡ number_of self }
-    {
+impl Refusal for ChartFault {
+    ghost layer = { layer_of };
+
+    ghost number = { number_of };
+
+    ghost place = { place_of };
+
+    fn layer(self) -> u32 {
+        match self {
+            ChartFault::Line(fault) => fault.layer(),
+            _ => 2,
+        }
+    }
+
+    fn number(self) -> u32 {
         match self {
             ChartFault::File => 1,
             ChartFault::Line(fault) => fault.number(),
@@ -74,14 +86,11 @@ impl ChartFault {
             ChartFault::Exits(_) => 10,
             ChartFault::Crossing(_) => 11,
             ChartFault::Write(_) => 12,
-            ChartFault::Memory => 0,
+            ChartFault::Memory(_) => 0,
         }
     }
 
-    /// The line that the refusal tells, 0 where it tells none.
-    pub fn place(self) -> u32
-        ensures { result ≡ place_of self }
-    {
+    fn place(self) -> u32 {
         match self {
             ChartFault::Line(fault) => fault.place(),
             ChartFault::Names(line)
@@ -90,7 +99,7 @@ impl ChartFault {
             | ChartFault::Exits(line)
             | ChartFault::Crossing(line)
             | ChartFault::Write(line) => line,
-            ChartFault::File | ChartFault::Roots | ChartFault::Memory => 0,
+            ChartFault::File | ChartFault::Roots | ChartFault::Memory(_) => 0,
         }
     }
 }

@@ -1,12 +1,13 @@
 //! What is wrong with a line file.
-ghost use Rattle.std.specs.Prelude.{◌≡◌};
-ghost use Rattle.faults.specs.LineFaults.{number_of, place_of};
+ghost use Rattle.std.specs.Prelude.{◌≡◌, alloc_error};
+ghost use Rattle.faults.specs.LineFaults.{layer_of, number_of, place_of};
 ghost use Rattle.faults.specs.declared.lines.FileFault.TheVariants.{Line, Memory};
 
-use std::alloc::AllocFailed;
+use refusal::Refusal;
+use std::alloc::{AllocError, AllocFailed};
 
 /// Why a line is refused, with the line, counted from 0.
-#[derive(Clone, Copy)]
+#[derive(Clone, Copy, PartialEq, Eq, Debug)]
 pub enum LineFault {
     /// It does not begin with a letter of the file and a comma, or a later letter stood before it.
     Letter(u32),
@@ -18,11 +19,18 @@ pub enum LineFault {
     Limit(u32),
 }
 
-impl LineFault {
-    /// The number of the question that got no.
-    pub fn number(self) -> u32
-        ensures { result ≡ number_of self }
-    {
+impl Refusal for LineFault {
+    ghost layer = { layer_of };
+
+    ghost number = { number_of };
+
+    ghost place = { place_of };
+
+    fn layer(self) -> u32 {
+        1
+    }
+
+    fn number(self) -> u32 {
         match self {
             LineFault::Letter(_) => 2,
             LineFault::Fields(_) => 3,
@@ -31,10 +39,7 @@ impl LineFault {
         }
     }
 
-    /// The line.
-    pub fn place(self) -> u32
-        ensures { result ≡ place_of self }
-    {
+    fn place(self) -> u32 {
         match self {
             LineFault::Letter(line)
             | LineFault::Fields(line)
@@ -45,16 +50,17 @@ impl LineFault {
 }
 
 /// Why a line file is not read.
-#[derive(Clone, Copy)]
+#[derive(Clone, Copy, PartialEq, Eq, Debug)]
 pub enum FileFault {
     /// It has too many bytes, or the last is not byte 10.
     Bytes,
     /// A line of it.
     Line(LineFault),
     /// There is no memory for its lines.
-    Memory,
+    Memory(AllocError),
 }
 
+// By hand, as a derived `From` would not say which fault it makes.
 impl From<LineFault> for FileFault {
     ghost from_gives = { λ e r. r ≡ Line e };
 
@@ -64,9 +70,9 @@ impl From<LineFault> for FileFault {
 }
 
 impl<T: Drop> From<AllocFailed<T>> for FileFault {
-    ghost from_gives = { λ _ r. r ≡ Memory };
+    ghost from_gives = { λ _ r. r ≡ Memory alloc_error };
 
-    fn from(_refused: AllocFailed<T>) -> FileFault {
-        FileFault::Memory
+    fn from(refused: AllocFailed<T>) -> FileFault {
+        FileFault::Memory(refused.into())
     }
 }

@@ -1,24 +1,25 @@
 //! What ends an output early.
 ghost use Rattle.std.specs.Prelude.{◌≡◌};
 ghost use Rattle.faults.specs.OutputFaults.{layer_of, number_of, place_of};
-ghost use Rattle.faults.specs.declared.outputs.Fault.TheVariants.{Chart, Row};
+ghost use Rattle.faults.specs.declared.outputs.Fault.TheVariants.{Chart, Trace};
+ghost use Rattle.trace.specs.declared.faults.Fault.TheVariants.{Row};
 
 use crate::charts::ChartFault;
+use refusal::Refusal;
 use row::RowFault;
 
 /// Why an execution is refused, with the fault of the layer below.
-#[derive(Clone, Copy)]
+#[derive(Clone, Copy, PartialEq, Eq, Debug)]
 pub enum Fault {
     /// The chart, or a line of it.
     Chart(ChartFault),
-    /// A row of the trace.
-    Row(RowFault),
     /// The file of the chart cannot be read.
     ChartFile,
-    /// The trace cannot be read, or is too long.
-    Trace,
+    /// The trace, or a row of it.
+    Trace(trace::Fault),
 }
 
+// By hand, as a derived `From` would not say which fault it makes.
 impl From<ChartFault> for Fault {
     ghost from_gives = { λ e r. r ≡ Chart e };
 
@@ -27,47 +28,50 @@ impl From<ChartFault> for Fault {
     }
 }
 
-impl From<RowFault> for Fault {
-    ghost from_gives = { λ e r. r ≡ Row e };
+impl From<trace::Fault> for Fault {
+    ghost from_gives = { λ e r. r ≡ Trace e };
 
-    fn from(below: RowFault) -> Fault {
-        Fault::Row(below)
+    fn from(below: trace::Fault) -> Fault {
+        Fault::Trace(below)
     }
 }
 
-impl Fault {
-    /// The layer whose question got no.
-    pub fn layer(self) -> u32
-        ensures { result ≡ layer_of self }
-    {
+impl From<RowFault> for Fault {
+    ghost from_gives = { λ e r. r ≡ Trace (Row e) };
+
+    fn from(below: RowFault) -> Fault {
+        Fault::Trace(below.into())
+    }
+}
+
+impl Refusal for Fault {
+    ghost layer = { layer_of };
+
+    ghost number = { number_of };
+
+    ghost place = { place_of };
+
+    fn layer(self) -> u32 {
         match self {
-            Fault::Chart(ChartFault::Line(_)) => 1,
-            Fault::Chart(_) => 2,
-            Fault::Row(_) => 3,
-            Fault::ChartFile | Fault::Trace => 5,
+            Fault::Chart(fault) => fault.layer(),
+            Fault::ChartFile => 5,
+            Fault::Trace(fault) => fault.layer(),
         }
     }
 
-    /// The number of that question.
-    pub fn number(self) -> u32
-        ensures { result ≡ number_of self }
-    {
+    fn number(self) -> u32 {
         match self {
             Fault::Chart(fault) => fault.number(),
-            Fault::Row(fault) => fault.number(),
-            Fault::ChartFile | Fault::Trace => 27,
+            Fault::ChartFile => 27,
+            Fault::Trace(fault) => fault.number(),
         }
     }
 
-    /// The place that the refusal tells.
-    pub fn place(self) -> u32
-        ensures { result ≡ place_of self }
-    {
+    fn place(self) -> u32 {
         match self {
             Fault::Chart(fault) => fault.place(),
-            Fault::Row(fault) => fault.place(),
             Fault::ChartFile => 0,
-            Fault::Trace => 1,
+            Fault::Trace(fault) => fault.place(),
         }
     }
 }

@@ -1,3 +1,3 @@
 pub mod Echo
-pub mod FirstLines
-pub mod Steps
+mod Rows
+mod Writing

@@ -1,2 +1,4 @@
 pub mod Faults
 pub mod Output
+pub mod Refusals
+pub mod Traces

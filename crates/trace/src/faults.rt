@@ -1,12 +1,13 @@
-//! What ends an output early.
+//! What is refused of a trace.
 ghost use Rattle.std.specs.Prelude.{◌≡◌};
 ghost use Rattle.trace.specs.Faults.{layer_of, number_of, place_of};
 ghost use Rattle.trace.specs.declared.faults.Fault.TheVariants.{Row};
 
+use refusal::Refusal;
 use row::RowFault;
 
 /// Why an execution is refused, with the fault of the layer below.
-#[derive(Clone, Copy)]
+#[derive(Clone, Copy, PartialEq, Eq, Debug)]
 pub enum Fault {
     /// A row of the trace.
     Row(RowFault),
@@ -14,6 +15,7 @@ pub enum Fault {
     Trace,
 }
 
+// By hand, as a derived `From` would not say which fault it makes.
 impl From<RowFault> for Fault {
     ghost from_gives = { λ e r. r ≡ Row e };
 
@@ -22,31 +24,28 @@ impl From<RowFault> for Fault {
     }
 }
 
-impl Fault {
-    /// The layer whose question got no.
-    pub fn layer(self) -> u32
-        ensures { result ≡ layer_of self }
-    {
+impl Refusal for Fault {
+    ghost layer = { layer_of };
+
+    ghost number = { number_of };
+
+    ghost place = { place_of };
+
+    fn layer(self) -> u32 {
         match self {
-            Fault::Row(_) => 3,
+            Fault::Row(fault) => fault.layer(),
             Fault::Trace => 5,
         }
     }
 
-    /// The number of that question.
-    pub fn number(self) -> u32
-        ensures { result ≡ number_of self }
-    {
+    fn number(self) -> u32 {
         match self {
             Fault::Row(fault) => fault.number(),
             Fault::Trace => 27,
         }
     }
 
-    /// The place that the refusal tells.
-    pub fn place(self) -> u32
-        ensures { result ≡ place_of self }
-    {
+    fn place(self) -> u32 {
         match self {
             Fault::Row(fault) => fault.place(),
             Fault::Trace => 1,

@@ -1,24 +1,25 @@
 //! The output for a trace.
-ghost use Rattle.std.specs.Prelude.{◌≡◌, ◌≤◌, [], ◌∷◌, ◌++◌, length, take, IfOk, Some, vec_items, OnOk};
-ghost use Rattle.row.specs.Reading.{width_at};
+ghost use Rattle.std.specs.Prelude.{◌≡◌, ◌≤◌, [], ◌∷◌, ◌++◌, length, take, IfOk, OnOk};
+ghost use Rattle.std.specs.Option.{option_copied};
+ghost use Rattle.text.specs.Lines.{lines};
 ghost use Rattle.row.specs.Rows.{most_bytes, most_words, row_bytes};
-ghost use Rattle.std.specs.Option.{option_map};
-ghost use Rattle.trace.specs.Faults.{layer_of, number_of, place_of};
-ghost use Rattle.trace.specs.Output.{Echoed, Echoes, lines, longest, output, output_from, refusal};
+ghost use Rattle.trace.specs.Output.{Echoed, output, output_from};
+ghost use Rattle.trace.specs.Refusals.{refusal};
 
+use crate::bytes::Trace;
 use crate::faults::Fault;
+use refusal::Refusal;
 use std::alloc::{AllocError, Global};
+use text::{Lines, NEWLINE};
 
-/// The bytes of the longest trace.
-pub const MOST_BYTES: usize = 32768;
-
-// A row that is not too wide, at the front of a text that holds the longest: how many bytes it has.
-fn row_text(row: &[u32], text: &mut [u8]) -> usize
-    requires { (length row.now ≤ most_words) × (most_bytes ≤ length text.old) }
-    ensures front { take result text.new ≡ row_bytes row.now }
-    ensures bound { result ≤ length text.new }
+// The bytes of a row that is not too wide, written at the front of a text that holds the longest.
+#[tactic(auto, using(crate::proofs::Writing::row_written))]
+fn row_text<'a>(row: &[u32], text: &'a mut [u8]) -> &'a [u8]
+    requires { (length row.now ≤ most_words) × (most_bytes ≤ length text.now) }
+    ensures { result.now ≡ row_bytes row.now }
 {
-    row::write(row, text).unwrap()
+    let len = row::write(row, text).unwrap();
+    &text[..len]
 }
 
 // One row more, which is not too wide.
@@ -27,83 +28,69 @@ fn append_row(out: &mut Vec<u8>, row: &[u32]) -> Result<(), AllocError>
     ensures { OnOk result (out.new.items ≡ out.old.items ++ row_bytes row.now) }
 {
     let mut text = [0; row::MOST_BYTES];
-    let len = row_text(row, &mut text);
-    out.extend_from_slice(&text[0..len])
+    out.extend_from_slice(row_text(row, &mut text))
 }
 
 // The words of a refusal's line.
-fn refusal_row(fault: Fault, rows: u32) -> [u32; 4]
-    ensures { result ≡ layer_of fault ∷ number_of fault ∷ place_of fault ∷ rows ∷ [] }
+fn refusal_row<F: Refusal>(fault: F, rows: u32) -> [u32; 4]
+    ensures { result ≡ F.layer fault ∷ F.number fault ∷ F.place fault ∷ rows ∷ [] }
 {
     [fault.layer(), fault.number(), fault.place(), rows]
 }
 
-// The line of a refusal, with the rows accepted before.
-fn append_refusal(out: &mut Vec<u8>, fault: Fault, rows: u32) -> Result<(), AllocError>
-    ensures { OnOk result (out.new.items ≡ out.old.items ++ refusal fault rows) }
+// The line of a refusal, with the rows accepted before. Its four numbers are a row like any other
+// and are written as one: `Display` would be a second way to write a row.
+#[tactic(auto, unfolding(crate::specs::Refusals::refusal))]
+fn append_refusal<F: Refusal>(out: &mut Vec<u8>, fault: F, rows: u32) -> Result<(), AllocError>
+    ensures { let line = refusal (F.layer fault) (F.number fault) (F.place fault) rows in
+        OnOk result (out.new.items ≡ out.old.items ++ line) }
 {
     out.extend_from_slice(b"refused,")?;
     append_row(out, &refusal_row(fault, rows))
 }
 
 // The rows of a trace, each read and written, up to the first that is refused.
-fn append_rows(trace: &[u8], row: &mut [u32], out: &mut Vec<u8>) -> Result<(), AllocError>
-    requires { length trace.now ≤ longest }
-    ensures { OnOk result (out.new.items ≡ out.old.items ++ output_from (length row.old) 0 (lines trace.now)) }
+fn append_rows(trace: &Trace, row: &mut [u32], out: &mut Vec<u8>) -> Result<(), AllocError>
+    ensures { let output = output_from (length row.old) 0 (lines trace.now) in
+        OnOk result (out.new.items ≡ out.old.items ++ output) }
 {
-    let mut place = 0;
-    let mut rows = 0;
-    while place < trace.len() {
-        match row::read(trace, place, row) {
-            Ok(end) => {
-                append_row(out, row)?;
-                place = end;
-                rows += 1;
-            }
-            Err(fault) => return append_refusal(out, fault.into(), rows),
+    for (rows, line) in Lines::new(trace.bytes).enumerate() {
+        match row::read(line, 0, row) {
+            Ok(_) => append_row(out, row)?,
+            Err(fault) => return append_refusal(out, Fault::from(fault), rows as u32),
         }
     }
     Ok(())
 }
 
-// A trace that is not too long: its first row decides how many words each has.
-fn execute_rows(heap: Global, trace: &[u8]) -> Result<Vec<u8>, AllocError>
-    requires { length trace.now ≤ longest }
-    ensures { IfOk result (λ out. out.items ≡ output_from (width_at trace.now 0) 0 (lines trace.now)) }
+/// The output for a trace whose rows have so many words.
+pub fn execute_rows(heap: Global, width: usize, trace: &Trace) -> Result<Vec<u8>, AllocError>
+    ensures { IfOk result (λ out. out.items ≡ output_from width 0 (lines trace.now)) }
 {
-    let mut row = vec![in heap; 0; row::width(trace, 0)]?;
+    let mut row = vec![in heap; 0; width]?;
     let mut out = Vec::new(heap);
     append_rows(trace, &mut row, &mut out)?;
     Ok(out)
 }
 
-// An output that is refused before any row.
-fn refuse(heap: Global, fault: Fault) -> Result<Vec<u8>, AllocError>
-    ensures { IfOk result (λ out. out.items ≡ refusal fault 0) }
+/// An output that is refused before any row.
+pub fn refuse<F: Refusal>(heap: Global, fault: F) -> Result<Vec<u8>, AllocError>
+    ensures { let line = refusal (F.layer fault) (F.number fault) (F.place fault) 0 in
+        IfOk result (λ out. out.items ≡ line) }
 {
     let mut out = Vec::new(heap);
     append_refusal(&mut out, fault, 0)?;
     Ok(out)
 }
 
-// A trace that could be read.
-fn execute_bytes(heap: Global, trace: &[u8]) -> Result<Vec<u8>, AllocError>
-    ensures value { IfOk result (λ out. out.items ≡ output (Some trace.now)) }
-    ensures echo { IfOk result (λ out. Echoes trace.now out.items) }
-{
-    if trace.len() > MOST_BYTES {
-        return refuse(heap, Fault::Trace);
-    }
-    execute_rows(heap, trace)
-}
-
 /// The output for a trace, or for one that cannot be read.
-pub fn execute(heap: Global, trace: Option<Vec<u8>>) -> Result<Vec<u8>, AllocError>
-    ensures value { IfOk result (λ out. out.items ≡ output (option_map vec_items trace)) }
-    ensures echo { IfOk result (λ out. Echoed (option_map vec_items trace) out.items) }
+#[tactic(auto, using(crate::proofs::Echo::echoes))]
+pub fn execute(heap: Global, trace: Option<&[u8]>) -> Result<Vec<u8>, AllocError>
+    ensures value { IfOk result (λ out. out.items ≡ output (option_copied trace.entry)) }
+    ensures echo { IfOk result (λ out. Echoed (option_copied trace.entry) out.items) }
 {
-    match trace {
-        Some(bytes) => execute_bytes(heap, &bytes),
-        None => refuse(heap, Fault::Trace),
+    match Trace::new(trace) {
+        Ok(trace) => execute_rows(heap, trace.width(), &trace),
+        Err(fault) => refuse(heap, fault),
     }
 }
