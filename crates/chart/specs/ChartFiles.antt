@@ -8,12 +8,22 @@ use Rattle.chart.specs.Regions.{region_in}
 use Rattle.chart.specs.States.{state_in}
 use Rattle.chart.specs.Transitions.{transition_in}
 use Rattle.chart.specs.Variables.{variable_in}
+use Rattle.chart.specs.declared.lines.Letter.{Letter}
+use Rattle.chart.specs.declared.lines.Letter.TheVariants.{Variable as Variables, Region as Regions, State as States, Transition as Transitions, Effect as Effects}
 use Rattle.chart.specs.declared.lines.Line.{Line}
 use Rattle.chart.specs.declared.lines.Line.TheVariants.{Variable, Region, State, Transition, Effect}
 
 -- variables, regions, states, transitions and effects, in this order
 abbrev pub letters : List ℕ
 letters = codes "VRSTE"
+
+-- where each letter stands among them
+abbrev pub place_of : Letter → ℕ
+place_of Variables = 0
+place_of Regions = 1
+place_of States = 2
+place_of Transitions = 3
+place_of Effects = 4
 
 -- at most so many lines of each letter
 abbrev pub limit : ℕ → ℕ

@@ -1,14 +1,14 @@
 //! An effect: an `E` line.
 ghost use Rattle.std.specs.Prelude.{◌≡◌};
 ghost use Rattle.chart.specs.Effects.{effect_in, how_in};
-ghost use Rattle.text.specs.Fields.{fields_from};
+ghost use Rattle.text.specs.Unread.{unread};
 
 use crate::expressions::{Expression, parse_expression};
 use linefile::{FieldForm, only_byte, take_field};
 use text::Fields;
 
 /// How an effect writes its variable.
-#[derive(Clone, Copy)]
+#[derive(Clone, Copy, PartialEq, Eq, Debug)]
 pub enum How {
     /// The value takes the place of the variable's word.
     Absolute,
@@ -29,7 +29,7 @@ impl FieldForm for How {
 }
 
 /// What a transition does to a variable, both given by their numbers.
-#[derive(Clone, Copy)]
+#[derive(Clone, Copy, PartialEq, Eq, Debug)]
 pub struct Effect {
     pub transition: u32,
     pub variable: u32,
@@ -39,7 +39,7 @@ pub struct Effect {
 
 // The effect whose fields follow the letter, with its number.
 pub(crate) fn parse_effect(mut fields: Fields) -> Option<(u32, Effect)>
-    ensures { result ≡ effect_in (fields_from fields.entry.text.now fields.entry.next) }
+    ensures { result ≡ effect_in (unread fields.entry) }
 {
     let number = take_field(&mut fields)?;
     let transition = take_field(&mut fields)?;

@@ -1,13 +1,13 @@
 //! An expression: an operator and two operands, the last three fields of a `T` or `E` line.
 ghost use Rattle.std.specs.Prelude.{◌≡◌};
-ghost use Rattle.chart.specs.Expressions.{constant_is, expression_in, is_always, is_left, is_sound, operand_in, operator_in, tagged};
-ghost use Rattle.text.specs.Fields.{fields_from};
+ghost use Rattle.chart.specs.Expressions.{expression_in, is_always, is_sound, operand_in, operator_in, tagged};
+ghost use Rattle.text.specs.Unread.{unread};
 
 use linefile::{FieldForm, end_fields, take_field};
 use text::{Fields, parse_word};
 
 /// What is worked out of the left and the right operand.
-#[derive(Clone, Copy)]
+#[derive(Clone, Copy, PartialEq, Eq, Debug)]
 pub enum Operator {
     /// The left word.
     Left,
@@ -42,20 +42,8 @@ impl FieldForm for Operator {
     }
 }
 
-impl Operator {
-    // Is it the one that takes no right operand?
-    fn is_left(self) -> bool
-        ensures { result ≡ is_left self }
-    {
-        match self {
-            Operator::Left => true,
-            _ => false,
-        }
-    }
-}
-
 /// A constant, or the variable of that number.
-#[derive(Clone, Copy)]
+#[derive(Clone, Copy, PartialEq, Eq, Debug)]
 pub enum Operand {
     Constant(u32),
     Variable(u32),
@@ -83,32 +71,27 @@ impl FieldForm for Operand {
     }
 }
 
-impl Operand {
-    // Is it this constant?
-    fn is_constant(self, word: u32) -> bool
-        ensures { result ≡ constant_is word self }
-    {
-        match self {
-            Operand::Constant(constant) => constant == word,
-            Operand::Variable(_) => false,
-        }
-    }
-}
-
 /// An operator with its operands.
-#[derive(Clone, Copy)]
+#[derive(Clone, Copy, PartialEq, Eq, Debug)]
 pub struct Expression {
     pub operator: Operator,
     pub left: Operand,
     pub right: Operand,
 }
 
+// The expression `0,c1,c0`.
+const ALWAYS: Expression = Expression {
+    operator: Operator::Left,
+    left: Operand::Constant(1),
+    right: Operand::Constant(0),
+};
+
 impl Expression {
     /// Is it `0,c1,c0`, which is always 1?
     pub fn is_always(self) -> bool
         ensures { result ≡ is_always self }
     {
-        self.operator.is_left() && self.left.is_constant(1) && self.right.is_constant(0)
+        self == ALWAYS
     }
 }
 
@@ -116,12 +99,12 @@ impl Expression {
 fn is_sound(expression: Expression) -> bool
     ensures { result ≡ is_sound expression }
 {
-    !expression.operator.is_left() || expression.right.is_constant(0)
+    expression.operator != Operator::Left || expression.right == Operand::Constant(0)
 }
 
 // The expression that the last three fields of a line are.
 pub(crate) fn parse_expression(mut fields: Fields) -> Option<Expression>
-    ensures { result ≡ expression_in (fields_from fields.entry.text.now fields.entry.next) }
+    ensures { result ≡ expression_in (unread fields.entry) }
 {
     let operator = take_field(&mut fields)?;
     let left = take_field(&mut fields)?;
@@ -132,9 +115,5 @@ pub(crate) fn parse_expression(mut fields: Fields) -> Option<Expression>
         left,
         right,
     };
-    if is_sound(expression) {
-        Some(expression)
-    } else {
-        None
-    }
+    is_sound(expression).then_some(expression)
 }

@@ -11,7 +11,7 @@ mod variables;
 
 pub use effects::{Effect, How};
 pub use expressions::{Expression, Operand, Operator};
-pub use lines::Line;
+pub use lines::{Letter, Line};
 pub use regions::Region;
 pub use states::{Kind, State};
 pub use transitions::{Transition, When};

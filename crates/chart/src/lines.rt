@@ -1,5 +1,7 @@
 //! A line of a chart file, of any letter.
-ghost use Rattle.chart.specs.ChartFiles.{chart_format};
+ghost use Rattle.std.specs.Prelude.{refl};
+ghost use Rattle.chart.specs.declared.lines.Letter.TheVariants.{Variable, Region, State, Transition, Effect};
+ghost use Rattle.chart.specs.ChartFiles.{chart_format, place_of};
 
 use crate::effects::{Effect, parse_effect};
 use crate::regions::{Region, parse_region};
@@ -9,8 +11,18 @@ use crate::variables::{Variable, parse_variable};
 use linefile::FileLine;
 use text::Fields;
 
+/// What a line of a chart file begins with: `V`, `R`, `S`, `T` or `E`, in this order.
+#[derive(Clone, Copy, PartialEq, Eq, PartialOrd, Ord, Debug)]
+pub enum Letter {
+    Variable,
+    Region,
+    State,
+    Transition,
+    Effect,
+}
+
 /// A line of a chart file. Its number is its place among the lines of its letter.
-#[derive(Clone, Copy)]
+#[derive(Clone, Copy, PartialEq, Eq, Debug)]
 pub enum Line {
     Variable(Variable),
     Region(Region),
@@ -20,46 +32,60 @@ pub enum Line {
 }
 
 impl FileLine for Line {
+    type Letter = Letter;
+
     ghost format = { chart_format };
 
-    fn letters() -> &'static [u8] {
-        b"VRSTE"
-    }
+    ghost place = { place_of };
 
-    fn limit(letter: usize) -> u32 {
-        match letter {
-            0 => 64,
-            1 => 32,
-            2 => 64,
-            3 => 128,
-            4 => 128,
-            _ => 0,
+    ghost ordered = { elim [
+      | Variable ↦ elim [ Variable ↦ refl | Region ↦ refl | State ↦ refl | Transition ↦ refl | Effect ↦ refl ]
+      | Region ↦ elim [ Variable ↦ refl | Region ↦ refl | State ↦ refl | Transition ↦ refl | Effect ↦ refl ]
+      | State ↦ elim [ Variable ↦ refl | Region ↦ refl | State ↦ refl | Transition ↦ refl | Effect ↦ refl ]
+      | Transition ↦ elim [ Variable ↦ refl | Region ↦ refl | State ↦ refl | Transition ↦ refl | Effect ↦ refl ]
+      | Effect ↦ elim [ Variable ↦ refl | Region ↦ refl | State ↦ refl | Transition ↦ refl | Effect ↦ refl ]
+    ] };
+
+    fn letter(byte: u8) -> Option<Letter> {
+        match byte {
+            b'V' => Some(Letter::Variable),
+            b'R' => Some(Letter::Region),
+            b'S' => Some(Letter::State),
+            b'T' => Some(Letter::Transition),
+            b'E' => Some(Letter::Effect),
+            _ => None,
         }
     }
 
-    fn parse(letter: usize, fields: Fields) -> Option<(u32, Line)> {
+    fn limit(letter: Letter) -> u32 {
         match letter {
-            0 => {
-                let (number, variable) = parse_variable(fields)?;
-                Some((number, Line::Variable(variable)))
-            }
-            1 => {
-                let (number, region) = parse_region(fields)?;
-                Some((number, Line::Region(region)))
-            }
-            2 => {
-                let (number, state) = parse_state(fields)?;
-                Some((number, Line::State(state)))
-            }
-            3 => {
-                let (number, transition) = parse_transition(fields)?;
-                Some((number, Line::Transition(transition)))
-            }
-            4 => {
-                let (number, effect) = parse_effect(fields)?;
-                Some((number, Line::Effect(effect)))
-            }
-            _ => None,
+            Letter::Variable => 64,
+            Letter::Region => 32,
+            Letter::State => 64,
+            Letter::Transition => 128,
+            Letter::Effect => 128,
+        }
+    }
+
+    fn parse(letter: Letter, fields: Fields) -> Option<(u32, Line)> {
+        match letter {
+            Letter::Variable => parse_variable(fields).map(|(number, line)| (
+                number,
+                Line::Variable(line),
+            )),
+            Letter::Region => parse_region(fields).map(|(number, line)| (
+                number,
+                Line::Region(line),
+            )),
+            Letter::State => parse_state(fields).map(|(number, line)| (number, Line::State(line))),
+            Letter::Transition => parse_transition(fields).map(|(number, line)| (
+                number,
+                Line::Transition(line),
+            )),
+            Letter::Effect => parse_effect(fields).map(|(number, line)| (
+                number,
+                Line::Effect(line),
+            )),
         }
     }
 }

@@ -1,13 +1,13 @@
 //! A state: an `S` line.
 ghost use Rattle.std.specs.Prelude.{◌≡◌};
 ghost use Rattle.chart.specs.States.{kind_in, state_in};
-ghost use Rattle.text.specs.Fields.{fields_from};
+ghost use Rattle.text.specs.Unread.{unread};
 
 use linefile::{FieldForm, end_fields, only_byte, take_field};
 use text::Fields;
 
 /// What a state is in its region.
-#[derive(Clone, Copy)]
+#[derive(Clone, Copy, PartialEq, Eq, Debug)]
 pub enum Kind {
     Initial,
     Ordinary,
@@ -28,7 +28,7 @@ impl FieldForm for Kind {
 }
 
 /// A state of a chart, with the number of the region it lies in.
-#[derive(Clone, Copy)]
+#[derive(Clone, Copy, PartialEq, Eq, Debug)]
 pub struct State {
     pub region: u32,
     pub kind: Kind,
@@ -36,7 +36,7 @@ pub struct State {
 
 // The state whose fields follow the letter, with its number.
 pub(crate) fn parse_state(mut fields: Fields) -> Option<(u32, State)>
-    ensures { result ≡ state_in (fields_from fields.entry.text.now fields.entry.next) }
+    ensures { result ≡ state_in (unread fields.entry) }
 {
     let number = take_field(&mut fields)?;
     let region = take_field(&mut fields)?;

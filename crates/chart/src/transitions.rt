@@ -1,14 +1,14 @@
 //! A transition: a `T` line.
 ghost use Rattle.std.specs.Prelude.{◌≡◌};
 ghost use Rattle.chart.specs.Transitions.{is_termination, trigger_fits, transition_in, when_in};
-ghost use Rattle.text.specs.Fields.{fields_from};
+ghost use Rattle.text.specs.Unread.{unread};
 
 use crate::expressions::{Expression, parse_expression};
 use linefile::{FieldForm, only_byte, take_field};
 use text::Fields;
 
 /// When a transition may be taken.
-#[derive(Clone, Copy)]
+#[derive(Clone, Copy, PartialEq, Eq, Debug)]
 pub enum When {
     /// Already in the tick that enters its source.
     Immediate,
@@ -36,15 +36,12 @@ impl When {
     pub fn is_termination(self) -> bool
         ensures { result ≡ is_termination self }
     {
-        match self {
-            When::Termination => true,
-            _ => false,
-        }
+        self == When::Termination
     }
 }
 
 /// A transition between two states, given by their numbers, with its trigger.
-#[derive(Clone, Copy)]
+#[derive(Clone, Copy, PartialEq, Eq, Debug)]
 pub struct Transition {
     pub source: u32,
     pub target: u32,
@@ -61,7 +58,7 @@ fn trigger_fits(transition: Transition) -> bool
 
 // The transition whose fields follow the letter, with its number.
 pub(crate) fn parse_transition(mut fields: Fields) -> Option<(u32, Transition)>
-    ensures { result ≡ transition_in (fields_from fields.entry.text.now fields.entry.next) }
+    ensures { result ≡ transition_in (unread fields.entry) }
 {
     let number = take_field(&mut fields)?;
     let source = take_field(&mut fields)?;
@@ -74,9 +71,5 @@ pub(crate) fn parse_transition(mut fields: Fields) -> Option<(u32, Transition)>
         when,
         trigger,
     };
-    if trigger_fits(transition) {
-        Some((number, transition))
-    } else {
-        None
-    }
+    trigger_fits(transition).then_some((number, transition))
 }

@@ -1,13 +1,13 @@
 //! A variable: a `V` line.
 ghost use Rattle.std.specs.Prelude.{◌≡◌};
 ghost use Rattle.chart.specs.Variables.{use_in, variable_in};
-ghost use Rattle.text.specs.Fields.{fields_from};
+ghost use Rattle.text.specs.Unread.{unread};
 
 use linefile::{FieldForm, end_fields, only_byte, take_field};
 use text::Fields;
 
 /// Who sees a variable.
-#[derive(Clone, Copy)]
+#[derive(Clone, Copy, PartialEq, Eq, Debug)]
 pub enum Use {
     Input,
     Output,
@@ -28,16 +28,17 @@ impl FieldForm for Use {
 }
 
 /// A variable of a chart, with the number of its joining (0 for none) and the word it starts with.
-#[derive(Clone, Copy)]
+#[derive(Clone, Copy, PartialEq, Eq, Debug)]
 pub struct Variable {
     pub usage: Use,
+    // a number and no `Option`: a joining set takes any number, 0 as one that no joining has
     pub joining: u32,
     pub start: u32,
 }
 
 // The variable whose fields follow the letter, with its number.
 pub(crate) fn parse_variable(mut fields: Fields) -> Option<(u32, Variable)>
-    ensures { result ≡ variable_in (fields_from fields.entry.text.now fields.entry.next) }
+    ensures { result ≡ variable_in (unread fields.entry) }
 {
     let number = take_field(&mut fields)?;
     let usage = take_field(&mut fields)?;

@@ -1,67 +1,49 @@
--- The steps of the loops that ask each line.
-use Rattle.std.proofs.Common.{◌≡◌, ℕ, zero, suc, ◌+◌, ◌<◌, ◌≤◌, Bool, true, false, cond, List, [], ◌∷◌, length, get_or, drop, Some, None, sym, refl, ap, ◌∙◌, add-one, arith, below_more}
-use Rattle.std.proofs.lemmas.List.{at_drop_more, at_drop_all, get_or_read}
-use Rattle.std.proofs.lemmas.Bool.{cond-true, cond-false}
-use Rattle.linefile.specs.Questions.{AllYes, YesBelow, count_yes_from, first_no, first_no_from}
+-- What the questions find that are asked of each line.
+use Rattle.std.proofs.Common.{◌≡◌, ℕ, zero, suc, ◌+◌, ◌<◌, ◌≤◌, Bool, true, false, cond, List, [], ◌∷◌, length, get_or, drop, Some, None, Option, sym, refl, arith}
+use Rattle.std.proofs.lemmas.List.{at_drop_more, at_drop_all}
+use Rattle.linefile.specs.Questions.{AllYes, Decided, count_yes_from, first_no, first_no_from}
 
-module _ {L : Type 0} (says : ℕ → L → Bool) (lines : List L) (i : ℕ) where
-  pub first_all : length lines ≤ i → first_no_from i says (drop i lines) ≡ None
-  first_all h = at_drop_all (first_no_from i says) lines i h
-
-  pub count_all : length lines ≤ i → count_yes_from i says (drop i lines) ≡ 0
-  count_all h = at_drop_all (count_yes_from i says) lines i h
-
-  -- at the line `i`, as it is read
-  module _ (line : L) (h : i < length lines) (read : line ≡ get_or lines i line) where
-    pub first_here : says i line ≡ false → first_no_from i says (drop i lines) ≡ Some i
-    first_here e =
-        at_drop_more (first_no_from i says) lines i line h
-        ∙ cond-false (says i (get_or lines i line)) _ (Some i) (ap (says i) (sym read) ∙ e)
-
-    pub first_later : says i line ≡ true → first_no_from i says (drop i lines) ≡ first_no_from (i + 1) says (drop (i + 1) lines)
-    first_later e =
-        at_drop_more (first_no_from i says) lines i line h
-        ∙ cond-true (says i (get_or lines i line)) _ (Some i) (ap (says i) (sym read) ∙ e)
-        ∙ ap (λ (n : ℕ). first_no_from n says (drop (i + 1) lines)) (sym (add-one i))
-
-    pub count_more : (t : Bool) → says i line ≡ t → count_yes_from i says (drop i lines) ≡ cond t 1 0 + count_yes_from (i + 1) says (drop (i + 1) lines)
-    count_more t e =
-        at_drop_more (count_yes_from i says) lines i line h
-        ∙ ap (λ (b : Bool). cond b 1 0 + count_yes_from (suc i) says (drop (i + 1) lines)) (ap (says i) (sym read) ∙ e)
-        ∙ ap (λ (n : ℕ). cond t 1 0 + count_yes_from n says (drop (i + 1) lines)) (sym (add-one i))
-
-    -- what the line says, whatever the default
-    pub says_at : (t : Bool) → says i line ≡ t → (d : L) → says i (get_or lines i d) ≡ t
-    says_at t e d = ap (says i) (sym (get_or_read lines i line h read d)) ∙ e
-
-    pub yes_more : says i line ≡ true → YesBelow says lines i → YesBelow says lines (i + 1)
-    yes_more e below k d b =
-        below_more (λ n. (d : L) → says n (get_or lines n d) ≡ true) i (λ n b d. below n d b) (says_at true e) k b d
-
--- there is no first no exactly where all lines say yes
 module _ {L : Type 0} (says : ℕ → L → Bool) where
-  here : (n : ℕ) (l : L) (ls : List L) → first_no_from n says (l ∷ ls) ≡ None → (says n l ≡ true) × (first_no_from (suc n) says ls ≡ None)
-  here n l ls e = go (says n l) refl
-    where
-      go : (t : Bool) → says n l ≡ t → (says n l ≡ true) × (first_no_from (suc n) says ls ≡ None)
-      go true t = (t, sym (cond-true (says n l) (first_no_from (suc n) says ls) (Some n) t) ∙ e)
-      go false t =
-          let z : ◌≡◌ {A = ℕ} 0 1 = cc (sym (cond-false (says n l) (first_no_from (suc n) says ls) (Some n) t) ∙ e) in absurd (omega arith)
+  -- there is no first no exactly where all lines say yes
+  later : (n : ℕ) (l : L) (ls : List L) → first_no_from n says (l ∷ ls) ≡ None → first_no_from (suc n) says ls ≡ None
+  later n l ls e = grind arith
 
   yes_from : (n : ℕ) (ls : List L) → first_no_from n says ls ≡ None → (k : ℕ) (d : L) → k < length ls → says (n + k) (get_or ls k d) ≡ true
   yes_from n [] e k d h = absurd (omega arith)
-  yes_from n (l ∷ ls) e zero d h = ap (λ (i : ℕ). says i l) (omega arith) ∙ (here n l ls e).0
-  yes_from n (l ∷ ls) e (suc k) d h =
-      ap (λ (i : ℕ). says i (get_or ls k d)) (omega arith) ∙ yes_from (suc n) ls (here n l ls e).1 k d (omega arith)
+  yes_from n (l ∷ ls) e zero d h = grind arith
+  yes_from n (l ∷ ls) e (suc k) d h = grind (arith, yes_from (suc n) ls (later n l ls e) k d (omega arith))
 
   none_from : (n : ℕ) (ls : List L) → ((k : ℕ) (d : L) → k < length ls → says (n + k) (get_or ls k d) ≡ true) → first_no_from n says ls ≡ None
   none_from n [] all = refl
   none_from n (l ∷ ls) all =
-      cond-true (says n l) (first_no_from (suc n) says ls) (Some n) (ap (λ (i : ℕ). says i l) (omega arith) ∙ all 0 l (omega arith))
-      ∙ none_from (suc n) ls (λ k d h. ap (λ (i : ℕ). says i (get_or ls k d)) (omega arith) ∙ all (suc k) d (omega arith))
+      grind (arith, all 0 l (omega arith), none_from (suc n) ls (λ k d h. grind (arith, all (suc k) d (omega arith))))
 
-  pub all_from_none : (ls : List L) → first_no says ls ≡ None → AllYes says ls
-  all_from_none ls e k d h = ap (λ (i : ℕ). says i (get_or ls k d)) (omega arith) ∙ yes_from 0 ls e k d h
+  -- a line that says no, behind lines that all say yes, is the first
+  some_from : (n : ℕ) (ls : List L) (at : ℕ) → at < length ls → ((d : L) → says (n + at) (get_or ls at d) ≡ false)
+      → ((k : ℕ) (d : L) → k < at → says (n + k) (get_or ls k d) ≡ true) → first_no_from n says ls ≡ Some (n + at)
+  some_from n [] at h stops all = absurd (omega arith)
+  some_from n (l ∷ ls) zero h stops all = grind (arith, stops l)
+  some_from n (l ∷ ls) (suc at) h stops all =
+      let behind = some_from (suc n) ls at (omega arith) (λ d. grind (arith, stops d)) (λ k d b. grind (arith, all (suc k) d (omega arith))) in
+      grind (arith, all 0 l (omega arith), behind)
 
-  pub none_from_all : (ls : List L) → AllYes says ls → first_no says ls ≡ None
-  none_from_all ls all = none_from 0 ls (λ k d h. ap (λ (i : ℕ). says i (get_or ls k d)) (omega arith) ∙ all k d h)
+  module _ (ls : List L) where
+    pub all_from_none : first_no says ls ≡ None → AllYes says ls
+    all_from_none e k d h = grind (arith, yes_from 0 ls e k d h)
+
+    pub none_from_all : AllYes says ls → first_no says ls ≡ None
+    none_from_all all = none_from 0 ls (λ k d h. grind (arith, all k d h))
+
+    -- only one answer is decided
+    pub decided_is : (answer : Option ℕ) → Decided says ls answer → answer ≡ first_no says ls
+    decided_is None all = sym (none_from_all all)
+    decided_is (Some at) first =
+        grind (arith, some_from 0 ls at first.within (λ d. grind (arith, first.says_no d)) (λ k d b. grind (arith, first.yes_before k d b)))
+
+-- the steps of the loop that counts
+module _ {L : Type 0} (says : ℕ → L → Bool) (lines : List L) (i : ℕ) where
+  pub count_all : length lines ≤ i → count_yes_from i says (drop i lines) ≡ 0
+  count_all h = at_drop_all (count_yes_from i says) lines i h
+
+  pub count_more : (line : L) → i < length lines → line ≡ get_or lines i line → count_yes_from i says (drop i lines) ≡ cond (says i line) 1 0 + count_yes_from (i + 1) says (drop (i + 1) lines)
+  count_more line h read = grind (arith, at_drop_more (count_yes_from i says) lines i line h)

@@ -1,4 +1,4 @@
--- What the letter of the last line tells of all earlier lines of a line file.
+-- What the last line tells of all earlier lines of a line file.
 use Rattle.std.proofs.Common.{◌≡◌, ℕ, ◌+◌, ◌<◌, ◌≤◌, Bool, true, false, cond, ◌&&◌, eqb, ltb, leb, List, [], ◌∷◌, length, Some, None, Ok, Option, Result, sym, refl, ap, ◌∙◌, subst, ap₂, arith}
 use Rattle.std.proofs.lemmas.Bool.{eq-eqb, lt-ltb, leb-true, eqb-true, ltb-true}
 use Rattle.std.proofs.lemmas.Bool.Decides.{nat_tests}
@@ -7,32 +7,35 @@ use Rattle.text.specs.Fields.{fields_from}
 use Rattle.linefile.specs.Files.{Passes, asked, count_of, in_order, letter_of, lettered, numbered, read_line}
 use Rattle.linefile.specs.Formats.{Format}
 use Rattle.linefile.specs.Forms.{provided, with_value}
+use Rattle.linefile.specs.Places.{comes, so_far}
 use Rattle.faults.specs.declared.lines.LineFault.{LineFault}
 use Rattle.faults.specs.declared.lines.LineFault.TheVariants.{Letter, Fields, Number, Limit}
 
--- the last letter is the latest of the earlier ones, and so many lines have it
-pub record Agrees (earlier : List ℕ) (letter count : ℕ) : Type 0 where
-  pub order : (l : ℕ) → in_order earlier l ≡ leb letter l
-  pub counts : (l : ℕ) → letter ≤ l → count_of earlier l ≡ cond (eqb l letter) count 0
-  pub few : count ≤ length earlier
+-- the last line tells of all earlier ones which letters may come, and how many lines have each of these
+pub record Agrees (earlier : List ℕ) (last : Option (ℕ × ℕ)) : Type 0 where
+  pub order : (l : ℕ) → in_order earlier l ≡ comes last l
+  pub counts : (l : ℕ) → comes last l ≡ true → count_of earlier l ≡ so_far last l
 
-pub agrees_none : Agrees [] 0 0
-agrees_none = record { order = λ l. grind (arith, nat_tests); counts = λ l h. grind (arith, nat_tests); few = omega arith }
+pub agrees_none : Agrees [] None
+agrees_none = record { order = λ l. refl; counts = λ l h. refl }
 
-order_more : (next letter l : ℕ) → letter ≤ next → (leb next l && leb letter l) ≡ leb next l
-order_more next letter l h = grind (arith, nat_tests)
+order_more : (last : Option (ℕ × ℕ)) (next l : ℕ) → comes last next ≡ true → (leb next l && comes last l) ≡ leb next l
+order_more None next l h = grind (arith, nat_tests)
+order_more (Some last) next l h = grind (arith, nat_tests)
 
-counts_more : (next letter l count : ℕ) → letter ≤ next → next ≤ l → cond (eqb next l) 1 0 + cond (eqb l letter) count 0 ≡ cond (eqb l next) (cond (eqb next letter) count 0 + 1) 0
-counts_more next letter l count h k = grind (arith, nat_tests)
+counts_more : (last : Option (ℕ × ℕ)) (next l : ℕ) → comes last next ≡ true → next ≤ l → cond (eqb next l) 1 0 + so_far last l ≡ cond (eqb l next) (so_far last next + 1) 0
+counts_more None next l h k = grind (arith, nat_tests)
+counts_more (Some last) next l h k = grind (arith, nat_tests)
 
-few_more : (next letter count n : ℕ) → count ≤ n → cond (eqb next letter) count 0 + 1 ≤ n + 1
-few_more next letter count n h = grind (arith, nat_tests)
+comes_later : (last : Option (ℕ × ℕ)) (next l : ℕ) → comes last next ≡ true → next ≤ l → comes last l ≡ true
+comes_later None next l h k = refl
+comes_later (Some last) next l h k = grind (arith, nat_tests)
 
-pub agrees_more : (earlier : List ℕ) (letter count next : ℕ) → Agrees earlier letter count → letter ≤ next → Agrees (next ∷ earlier) next (cond (eqb next letter) count 0 + 1)
-agrees_more earlier letter count next a h = record {
-  order = λ l. ap (λ (b : Bool). leb next l && b) (a.order l) ∙ order_more next letter l h;
-  counts = λ l k. ap (λ (n : ℕ). cond (eqb next l) 1 0 + n) (a.counts l (omega arith)) ∙ counts_more next letter l count h k;
-  few = omega (arith, few_more next letter count (length earlier) a.few);
+pub agrees_more : (earlier : List ℕ) (last : Option (ℕ × ℕ)) (next : ℕ) → Agrees earlier last → comes last next ≡ true → Agrees (next ∷ earlier) (Some (next, so_far last next + 1))
+agrees_more earlier last next a h = record {
+  order = λ l. ap (λ (b : Bool). leb next l && b) (a.order l) ∙ order_more last next l h;
+  counts = λ l k. let later : next ≤ l = leb-true next l k in
+      ap (λ (n : ℕ). cond (eqb next l) 1 0 + n) (a.counts l (comes_later last next l h later)) ∙ counts_more last next l h later;
 }
 
 module _ {L : Type 0} (format : Format L) (place : ℕ) (line : List ℕ) where
@@ -40,19 +43,19 @@ module _ {L : Type 0} (format : Format L) (place : ℕ) (line : List ℕ) where
   asking : (ℕ → ℕ) → Option ℕ → Result (ℕ × L) LineFault
   asking count o = asked (Letter place) o (λ letter. numbered format place line letter (count letter))
 
-  -- a line is read alike by what its last letter tells
-  pub line_same : (earlier : List ℕ) (letter count : ℕ) → Agrees earlier letter count → place ≡ length earlier
-      → lettered format (leb letter) (λ l. cond (eqb l letter) count 0) place line ≡ read_line format earlier line
+  -- a line is read alike by what the last line tells
+  pub line_same : (earlier : List ℕ) (last : Option (ℕ × ℕ)) → Agrees earlier last → place ≡ length earlier
+      → lettered format (comes last) (so_far last) place line ≡ read_line format earlier line
   unfolding asking
-  line_same earlier letter count a e = go (letter_of format.letters line) ∙ ap (λ (n : ℕ). lettered format (in_order earlier) (count_of earlier) n line) e
+  line_same earlier last a e = go (letter_of format.letters line) ∙ ap (λ (n : ℕ). lettered format (in_order earlier) (count_of earlier) n line) e
     where
-      here : (l : ℕ) (b : Bool) → leb letter l ≡ b → asking (λ l. cond (eqb l letter) count 0) (cond b (Some l) None) ≡ asking (count_of earlier) (cond b (Some l) None)
-      here l true t = ap (numbered format place line l) (sym (a.counts l (leb-true letter l t)))
+      here : (l : ℕ) (b : Bool) → comes last l ≡ b → asking (so_far last) (cond b (Some l) None) ≡ asking (count_of earlier) (cond b (Some l) None)
+      here l true t = ap (numbered format place line l) (sym (a.counts l t))
       here l false t = refl
 
-      go : (o : Option ℕ) → asking (λ l. cond (eqb l letter) count 0) (with_value o (provided (leb letter))) ≡ asking (count_of earlier) (with_value o (provided (in_order earlier)))
+      go : (o : Option ℕ) → asking (so_far last) (with_value o (provided (comes last))) ≡ asking (count_of earlier) (with_value o (provided (in_order earlier)))
       go None = refl
-      go (Some l) = here l (leb letter l) refl ∙ ap (λ (b : Bool). asking (count_of earlier) (cond b (Some l) None)) (sym (a.order l))
+      go (Some l) = here l (comes last l) refl ∙ ap (λ (b : Bool). asking (count_of earlier) (cond b (Some l) None)) (sym (a.order l))
 
   -- an accepted line got yes to each question
   numbered_passes : (letter count next : ℕ) (l : L) → numbered format place line letter count ≡ Ok (next, l)

@@ -1,5 +1,5 @@
 -- A line file: every line begins with a letter and a comma, and is numbered among the lines of its letter.
-use Rattle.std.specs.Prelude.{◌≡◌, ℕ, ◌+◌, ◌<◌, Bool, true, cond, ◌&&◌, ◌⊎◌, List, [], ◌∷◌, length, Some, None, Ok, Err, vec_items, Option, Result, ◌==◌, nat_eq, nat_le, nat_lt}
+use Rattle.std.specs.Prelude.{◌≡◌, ℕ, ◌+◌, ◌<◌, Bool, true, cond, ◌&&◌, ◌⊎◌, List, [], ◌∷◌, length, Some, None, Ok, Err, vec_items, Option, Result, ◌==◌, nat_eq, nat_le, nat_lt, alloc_error}
 use Rattle.std.specs.Global.{Vec}
 use Rattle.text.specs.Fields.{comma, fields_from}
 use Rattle.linefile.specs.Forms.{provided, with_value}
@@ -98,9 +98,9 @@ FilePasses format text ls = (is_whole text ≡ true) × Pass format [] (lines te
 -- the answer is these lines or this fault, unless there was no memory
 abbrev pub Tells : {L : Type 0} → Result (List L) FileFault → Result (Vec L) FileFault → Type 0
 Tells verdict (Ok v) = Ok (vec_items v) ≡ verdict
-Tells verdict (Err fault) = (fault ≡ Memory) ⊎ (Err fault ≡ verdict)
+Tells verdict (Err fault) = (fault ≡ Memory alloc_error) ⊎ (Err fault ≡ verdict)
 
 -- The file is accepted exactly when it passes: the lines that are answered are what it says, and a file that is refused says nothing.
 abbrev pub Exactly : {L : Type 0} → Format L → List ℕ → Result (Vec L) FileFault → Type 0
 Exactly format text (Ok v) = FilePasses format text (vec_items v)
-Exactly format text (Err fault) = (fault ≡ Memory) ⊎ ((ls : List _) → FilePasses format text ls → ⊥)
+Exactly format text (Err fault) = (fault ≡ Memory alloc_error) ⊎ ((ls : List _) → FilePasses format text ls → ⊥)

@@ -1,5 +1,6 @@
 -- Fields read in turn, each by its form.
 use Rattle.std.specs.Prelude.{ℕ, Bool, cond, List, [], ◌∷◌, Some, None, Option, ◌==◌}
+use Rattle.std.specs.Option.{option_map}
 
 -- the value of the first field, if there is one and it has the form
 abbrev pub first_of : {A : Type 0} → (List ℕ → Option A) → List (List ℕ) → Option A
@@ -37,6 +38,10 @@ provided test a = cond (test a) (Some a) None
 abbrev pub or_else : {A : Type 0} → Option A → Option A → Option A
 or_else None other = other
 or_else (Some a) other = Some a
+
+-- `-` where there is no value, or a field of the form
+abbrev pub optional : {A : Type 0} → (List ℕ → Option A) → List ℕ → Option (Option A)
+optional form bytes = or_else (letter_in ((45, None) ∷ []) bytes) (option_map Some (form bytes))
 
 -- a field of the form, and then the other fields
 abbrev pub field : {A B : Type 0} → (List ℕ → Option A) → (A → List (List ℕ) → Option B) → List (List ℕ) → Option B

@@ -1,7 +1,8 @@
 //! Fields of a form: what a field may hold, and the value it stands for.
 ghost use Rattle.std.specs.Prelude.{◌≡◌, ℕ, List, Option};
-ghost use Rattle.text.specs.Fields.{fields_from, next_place};
-ghost use Rattle.linefile.specs.Forms.{first_of, nothing_left, only_byte, rest};
+ghost use Rattle.text.specs.Fields.{next_place};
+ghost use Rattle.text.specs.Unread.{unread};
+ghost use Rattle.linefile.specs.Forms.{first_of, nothing_left, only_byte, optional, rest};
 ghost use Rattle.text.specs.Words.{word_in};
 
 use text::{Fields, parse_word};
@@ -23,7 +24,22 @@ impl FieldForm for u32 {
     }
 }
 
-/// The byte of a field that has just one.
+// What stands in place of a value that is absent.
+const ABSENT: u8 = b'-';
+
+impl<F: FieldForm> FieldForm for Option<F> {
+    ghost form = { optional F.form };
+
+    fn parse(field: &[u8]) -> Option<Option<F>> {
+        match field {
+            [ABSENT] => Some(None),
+            _ => Some(Some(F::parse(field)?)),
+        }
+    }
+}
+
+/// The byte of a field that has just one. What is written as one letter matches on it: the letters
+/// of its type are all that such a `parse` has.
 pub fn only_byte(field: &[u8]) -> Option<u8>
     ensures { result ≡ only_byte «field».now }
 {
@@ -35,8 +51,8 @@ pub fn only_byte(field: &[u8]) -> Option<u8>
 
 /// The value of the next field, if there is one and it has the form.
 pub fn take_field<F: FieldForm>(fields: &mut Fields) -> Option<F>
-    ensures value { result ≡ first_of F.form (fields_from fields.old.text.now fields.old.next) }
-    ensures left { fields_from fields.new.text.now fields.new.next ≡ rest (fields_from fields.old.text.now fields.old.next) }
+    ensures value { result ≡ first_of F.form (unread fields.old) }
+    ensures left { unread fields.new ≡ rest (unread fields.old) }
     ensures text { fields.new.text.now ≡ fields.old.text.now }
     ensures next { fields.new.next ≡ next_place fields.old.text.now fields.old.next }
 {
@@ -46,7 +62,7 @@ pub fn take_field<F: FieldForm>(fields: &mut Fields) -> Option<F>
 
 /// Asks that no field is left.
 pub fn end_fields(mut fields: Fields) -> Option<()>
-    ensures { result ≡ nothing_left (fields_from fields.entry.text.now fields.entry.next) }
+    ensures { result ≡ nothing_left (unread fields.entry) }
 {
     match fields.next_field() {
         Some(_) => None,

@@ -1,36 +1,44 @@
-//! Questions that are asked of each line of a kind, the first no deciding.
-ghost use Rattle.std.specs.Prelude.{◌≡◌, ℕ, ◌≤◌, Bool, length};
-ghost use Rattle.linefile.specs.Questions.{Decided, count_yes, first_no};
+//! Questions that are asked of each line of a kind with its number, the first no deciding.
+ghost use Rattle.std.specs.Prelude.{◌≡◌, ℕ, ◌<◌, ◌≤◌, Bool, IfSome, length};
+ghost use Rattle.linefile.specs.Questions.{AnswersAs, Decided, count_yes, first_no};
 
-/// A question that is asked of each line of a kind, with the line's number.
-pub trait Question<L> {
-    ghost yes: { Self → ℕ → L → Bool };
-
-    fn holds(&self, number: usize, line: &L) -> bool
-        ensures { result ≡ yes self.now number line.now };
+// Where the first line that says no stands, without the equation for it.
+fn position_of_no<L, F: Fn(usize, &L) -> bool>(lines: &[L], holds: F) -> Option<usize>
+    requires { F.IsAlwaysCallable holds }
+    ensures first { (says : ℕ → L → Bool) → AnswersAs F.Fn holds says
+        → Decided says lines.now result }
+    ensures within { IfSome result (λ number. number < length lines.now) }
+{
+    lines
+        .iter()
+        .enumerate()
+        .position(|(number, line)| !holds(number, line))
 }
 
 /// The number of the first line that says no.
-pub fn first_no<L, Q: Question<L>>(question: &Q, lines: &[L]) -> Option<usize>
-    ensures value { result ≡ first_no (Q.Question.yes question.now) lines.now }
-    ensures first { Decided (Q.Question.yes question.now) lines.now result }
+pub fn first_no<L, F: Fn(usize, &L) -> bool>(lines: &[L], holds: F) -> Option<usize>
+    requires { F.IsAlwaysCallable holds }
+    ensures value { (says : ℕ → L → Bool) → AnswersAs F.Fn holds says
+        → result ≡ first_no says lines.now }
+    ensures first { (says : ℕ → L → Bool) → AnswersAs F.Fn holds says
+        → Decided says lines.now result }
+    ensures within { IfSome result (λ number. number < length lines.now) }
 {
-    for number in 0..lines.len() {
-        if !question.holds(number, &lines[number]) {
-            return Some(number);
-        }
-    }
-    None
+    position_of_no(lines, holds)
 }
 
 /// How many lines say yes.
-pub fn count_yes<L, Q: Question<L>>(question: &Q, lines: &[L]) -> usize
-    ensures value { result ≡ count_yes (Q.Question.yes question.now) lines.now }
+#[tactic(auto, using(crate::proofs::Asking::count_all, crate::proofs::Asking::count_more))]
+pub fn count_yes<L, F: Fn(usize, &L) -> bool>(lines: &[L], holds: F) -> usize
+    requires { F.IsAlwaysCallable holds }
+    ensures value { (says : ℕ → L → Bool) → AnswersAs F.Fn holds says
+        → result ≡ count_yes says lines.now }
     ensures bound { result ≤ length lines.now }
 {
+    // a loop, since the library says of `enumerate` only what it gives at each place
     let mut count = 0;
     for (number, line) in lines.iter().enumerate() {
-        if question.holds(number, line) {
+        if holds(number, line) {
             count += 1;
         }
     }

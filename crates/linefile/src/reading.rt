@@ -1,111 +1,120 @@
 //! Reading a line file: every line begins with a letter and a comma, and is numbered among the lines
 //! of its letter.
-ghost use Rattle.std.specs.Prelude.{◌≡◌, ◌+◌, ◌<◌, true, [], if◌then◌else◌, nat_eq, nat_le};
-ghost use Rattle.text.specs.Fields.{fields_from};
-ghost use Rattle.linefile.specs.Files.{Exactly, Tells, file_lines, in_file, is_whole, letter_of, lettered, read_lines};
-ghost use Rattle.text.specs.Lines.{lines};
+ghost use Rattle.std.specs.Prelude.{◌≡◌, ℕ, ◌+◌, ◌≤◌, [], cond, IfOk, Some, None, length};
+ghost use Rattle.std.specs.Option.{option_map};
+ghost use Rattle.std.specs.Ordering.{nat_cmp};
+ghost use Rattle.text.specs.Lines.{bare, lines};
+ghost use Rattle.text.specs.Parts.{first_from};
+ghost use Rattle.text.specs.Unread.{unread};
+ghost use Rattle.linefile.specs.Files.{Exactly, Tells, file_lines, in_file, is_whole, letter_of, lettered, longest, read_lines};
 ghost use Rattle.linefile.specs.Formats.{Format};
+ghost use Rattle.linefile.specs.Places.{comes, placed, placed_last, so_far};
 
 use faults::{FileFault, LineFault};
 use std::alloc::Global;
-use text::{COMMA, Fields, NEWLINE, find};
+use std::cmp::Ordering;
+use text::{COMMA, Fields, Lines, NEWLINE};
 
 /// The bytes of the longest line file.
 pub const MOST_BYTES: usize = 32768;
 
 /// A line of a kind of line file.
-pub trait FileLine {
+pub trait FileLine: Sized {
+    /// The letters that lines begin with, in their order.
+    type Letter: Copy + Ord;
+
     ghost format: { Format Self };
 
-    /// The letters of the file, in order.
-    fn letters() -> &'static [u8]
-        ensures { result.now ≡ format.letters };
+    // where a letter stands among the letters
+    ghost place: { Self.Letter → ℕ };
 
-    /// How many lines the letter at a place among the letters may have.
-    fn limit(letter: usize) -> u32
-        ensures { result ≡ format.limit letter };
+    /// The letter that a byte is.
+    fn letter(byte: u8) -> Option<Self::Letter>
+        ensures { option_map place result ≡ first_from byte format.letters 0 };
+
+    /// How many lines of a letter there may be.
+    fn limit(letter: Self::Letter) -> u32
+        ensures { result ≡ format.limit (place letter) };
 
     /// What a line of this letter says by the fields behind the letter: its number and the line.
-    fn parse(letter: usize, fields: Fields) -> Option<(u32, Self)>
-        ensures { result ≡ format.form letter (fields_from fields.entry.text.now fields.entry.next) };
+    fn parse(letter: Self::Letter, fields: Fields) -> Option<(u32, Self)>
+        ensures { result ≡ format.form (place letter) (unread fields.entry) };
+
+    // the order of letters is that of their places
+    ghost ordered: { (a b : Self.Letter) → Self.Letter.cmp a b ≡ nat_cmp (place a) (place b) };
 }
 
 // At most so many bytes, the last being byte 10 unless there is none.
 fn is_whole(text: &[u8]) -> bool
     ensures { result ≡ is_whole text.now }
 {
-    text.len() <= MOST_BYTES && (text.len() == 0 || text[text.len() - 1] == NEWLINE)
+    text.len() <= MOST_BYTES && matches!(text, [] | [.., NEWLINE])
 }
 
-// The letter that a line begins with, before a comma, by its place among the letters.
-fn letter_of(letters: &[u8], line: &[u8]) -> Option<usize>
-    ensures { result ≡ letter_of letters.now line.now }
+// A line without its byte 10.
+fn bare(line: &[u8]) -> &[u8]
+    ensures { result.now ≡ bare line.now }
+{
+    &line[..line.len().saturating_sub(1)]
+}
+
+// The letter that a line begins with, before a comma.
+fn letter_of<L: FileLine>(line: &[u8]) -> Option<L::Letter>
+    ensures { option_map L.place result ≡ letter_of L.format.letters line.now }
 {
     match line {
-        [letter, COMMA, ..] => find(letters, *letter, 0),
+        [letter, COMMA, ..] => L::letter(*letter),
         _ => None,
     }
 }
 
-// The letter of the last line, and how many lines it has so far.
-#[derive(Clone, Copy)]
-struct Progress {
-    letter: usize,
-    count: u32,
-}
-
-impl Progress {
-    // How many lines a letter has that may still come.
-    fn count_of(self, letter: usize) -> u32
-        ensures { result ≡ (if nat_eq letter self.letter then self.count else 0) }
-    {
-        if letter == self.letter { self.count } else { 0 }
+// How many lines of a letter were read, by the letter of the last line and how many have that one:
+// nothing where the letter may not come any more.
+fn count_so_far<L: FileLine>(last: Option<(L::Letter, u32)>, letter: L::Letter) -> Option<u32>
+    ensures { result ≡ cond (comes (placed_last L.place last) (L.place letter)) (Some (so_far (placed_last L.place last) (L.place letter))) None }
+{
+    let Some((last_letter, count)) = last else {
+        return Some(0);
+    };
+    match letter.cmp(&last_letter) {
+        Ordering::Less => None,
+        Ordering::Equal => Some(count),
+        Ordering::Greater => Some(0),
     }
 }
 
-// The letter of the line at a place, and what the line says.
+// What the line at a place says, with its letter and how many lines now have it.
 fn read_line<L: FileLine + Drop>(
     line: &[u8],
     place: u32,
-    progress: Progress,
-) -> Result<(usize, L), LineFault>
-    ensures { result ≡ lettered L.format (nat_le progress.letter) (λ letter. (if nat_eq letter progress.letter then progress.count else 0)) place line.now }
+    last: Option<(L::Letter, u32)>,
+) -> Result<((L::Letter, u32), L), LineFault>
+    ensures line { placed L.place result ≡ lettered L.format (comes (placed_last L.place last)) (so_far (placed_last L.place last)) place line.now }
+    ensures count { IfOk result (λ found. found.0.1 ≡ so_far (placed_last L.place last) (L.place found.0.0) + 1) }
 {
-    let letter = match letter_of(L::letters(), line) {
-        Some(letter) if letter >= progress.letter => letter,
-        _ => return Err(LineFault::Letter(place)),
-    };
-    let Some((number, found)) = L::parse(letter, Fields::new(line, 2)) else {
-        return Err(LineFault::Fields(place));
-    };
-    if number != progress.count_of(letter) {
+    let letter = letter_of::<L>(line).ok_or(LineFault::Letter(place))?;
+    let count = count_so_far::<L>(last, letter).ok_or(LineFault::Letter(place))?;
+    let (number, said) = L::parse(letter, Fields::new(line, 2)).ok_or(LineFault::Fields(place))?;
+    if number != count {
         return Err(LineFault::Number(place));
     }
     if number >= L::limit(letter) {
         return Err(LineFault::Limit(place));
     }
-    Ok((letter, found))
+    Ok(((letter, number + 1), said))
 }
 
-// The lines of a whole file, each in turn.
+// The lines of a file that is not too long, each in turn.
 fn read_each<L: FileLine + Drop>(heap: Global, text: &[u8]) -> Result<Vec<L>, FileFault>
-    requires { is_whole text.now ≡ true }
+    requires { length text.now ≤ longest }
     ensures { Tells (in_file (read_lines L.format [] (lines text.now))) result }
 {
     let mut read = Vec::new(heap);
-    let mut progress = Progress {
-        letter: 0,
-        count: 0,
-    };
-    let mut place = 0;
-    while let Some(end) = find(text, NEWLINE, place) {
-        let (letter, line) = read_line(&text[place..end], read.len() as u32, progress)?;
-        read.push(line)?;
-        progress = Progress {
-            letter,
-            count: progress.count_of(letter) + 1,
-        };
-        place = end + 1;
+    let mut last = None;
+    for line in Lines::new(text) {
+        let (letter, said) = read_line(bare(line), read.len() as u32, last)?;
+        read.push(said)?;
+        last = Some(letter);
     }
     Ok(read)
 }

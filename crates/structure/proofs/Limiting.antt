@@ -1,5 +1,5 @@
 -- A chart file that passes keeps the limits.
-use Rattle.std.proofs.Common.{◌≡◌, ℕ, ◌+◌, ◌≤◌, cond, eqb, List, [], ◌∷◌, map, length, Option, ap, ◌∙◌, arith}
+use Rattle.std.proofs.Common.{◌≡◌, ℕ, ◌+◌, ◌≤◌, cond, eqb, List, [], ◌∷◌, map, length, Option, arith}
 use Rattle.chart.proofs.LetterOf.{form_told, letter_told}
 use Rattle.chart.specs.ChartFiles.{chart_format}
 use Rattle.chart.specs.declared.lines.Line.{Line}
@@ -7,11 +7,12 @@ use Rattle.chart.specs.declared.lines.Line.TheVariants.{Variable, Region, State,
 use Rattle.linefile.proofs.Limiting.{few_of}
 use Rattle.linefile.specs.Files.{FilePasses, count_of}
 use Rattle.text.specs.Lines.{lines}
-use Rattle.structure.specs.Lists.{Limited, effect_of, listed, onto, picked, region_of, state_of, transition_of, variable_of}
+use Rattle.std.specs.List.{cons_option, filter_map}
+use Rattle.structure.specs.Lists.{Limited, effect_of, listed, region_of, state_of, transition_of, variable_of}
 
 -- what is picked of a line counts it where it is of that letter
 abbrev Counts : {A : Type 0} → ℕ → Line → Option A → Type 0
-Counts {A} k l o = (more : List A) → length (onto o more) ≡ cond (eqb (letter_told l) k) 1 0 + length more
+Counts {A} k l o = (more : List A) → length (cons_option o more) ≡ cond (eqb (letter_told l) k) 1 0 + length more
 
 one : {A : Type 0} (x : A) (more : List A) → length (x ∷ more) ≡ 1 + length more
 one x more = omega arith
@@ -26,12 +27,12 @@ counted (State s) = (none, none, one s, none, none)
 counted (Transition t) = (none, none, none, one t, none)
 counted (Effect e) = (none, none, none, none, one e)
 
-picked_count : {A : Type 0} (pick : Line → Option A) (k : ℕ) → ((l : Line) → Counts k l (pick l)) → (ls : List Line) → length (picked pick ls) ≡ count_of (map letter_told ls) k
+picked_count : {A : Type 0} (pick : Line → Option A) (k : ℕ) → ((l : Line) → Counts k l (pick l)) → (ls : List Line) → length (filter_map pick ls) ≡ count_of (map letter_told ls) k
 picked_count pick k counts [] = omega arith
-picked_count pick k counts (l ∷ ls) = counts l (picked pick ls) ∙ ap (λ (n : ℕ). cond (eqb (letter_told l) k) 1 0 + n) (picked_count pick k counts ls)
+picked_count pick k counts (l ∷ ls) = omega (arith, counts l (filter_map pick ls), picked_count pick k counts ls)
 
 module _ (text : List ℕ) (ls : List Line) (passes : FilePasses chart_format text ls) where
-  few_picked : {A : Type 0} (pick : Line → Option A) (k : ℕ) → ((l : Line) → Counts k l (pick l)) → length (picked pick ls) ≤ chart_format.limit k
+  few_picked : {A : Type 0} (pick : Line → Option A) (k : ℕ) → ((l : Line) → Counts k l (pick l)) → length (filter_map pick ls) ≤ chart_format.limit k
   few_picked pick k counts =
       let few = few_of chart_format letter_told form_told k [] (lines text) ls passes.1 (omega arith) in
       omega (arith, few, picked_count pick k counts ls)

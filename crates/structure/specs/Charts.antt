@@ -1,16 +1,15 @@
 -- A chart file: the questions in their order, the first no deciding.
-use Rattle.std.specs.Prelude.{◌≡◌, ℕ, ◌⊎◌, List, Ok, Err, Result}
+use Rattle.std.specs.Prelude.{◌≡◌, ℕ, ◌⊎◌, List, Ok, Err, Result, alloc_error}
 use Rattle.chart.specs.ChartFiles.{chart_format}
 use Rattle.chart.specs.declared.lines.Line.{Line}
 use Rattle.linefile.specs.Files.{FilePasses, file_lines}
 use Rattle.faults.specs.declared.lines.FileFault.{FileFault}
 use Rattle.faults.specs.ChartFaults.{chart_fault}
-use Rattle.structure.specs.Lists.{Lists, listed, lists_of, no_lines}
+use Rattle.structure.specs.Lists.{Lists, listed, no_lines}
 use Rattle.structure.specs.Structure.{Structured, structure_verdict}
 use Rattle.structure.specs.Verdicts.{Verdict}
 use Rattle.faults.specs.declared.charts.ChartFault.{ChartFault}
 use Rattle.faults.specs.declared.charts.ChartFault.TheVariants.{Memory}
-use Rattle.structure.specs.declared.lines.Lines.{Lines}
 
 abbrev pub kept : Lists → Verdict → Result Lists ChartFault
 kept lists (Ok yes-to-all) = Ok lists
@@ -25,11 +24,6 @@ judged joinings (Err fault) = Err (chart_fault fault)
 abbrev pub verdict : ℕ → List ℕ → Result Lists ChartFault
 verdict joinings text = judged joinings (file_lines chart_format text)
 
--- the lines or the fault of a verdict, unless memory is short
-abbrev pub Told : Result Lists ChartFault → Result Lines ChartFault → Type 0
-Told found (Ok lines) = Ok (lists_of lines) ≡ found
-Told found (Err fault) = (fault ≡ Memory) ⊎ (Err fault ≡ found)
-
 -- the answer and the lines then: a refused read leaves no lines
 abbrev pub settled : Result Lists ChartFault → Verdict × Lists
 settled (Ok lists) = (Ok tt, lists)
@@ -37,7 +31,7 @@ settled (Err fault) = (Err fault, no_lines)
 
 -- Reading: the answer and the lines then, as the verdict has it or for want of memory.
 abbrev pub Settles : Result Lists ChartFault → Verdict × Lists → Type 0
-Settles found left = (left ≡ settled (Err Memory)) ⊎ (left ≡ settled found)
+Settles found left = (left ≡ settled (Err (Memory alloc_error))) ⊎ (left ≡ settled found)
 
 -- The file gets yes to questions 1 to 12, and these are its lines.
 pub record Passes (joinings : ℕ) (text : List ℕ) (lists : Lists) : Type 0 where

@@ -1,5 +1,5 @@
 -- The lines of a chart by their kinds.
-use Rattle.std.specs.Prelude.{ℕ, ◌+◌, List, [], ◌∷◌, length, Some, None, vec_items, Option}
+use Rattle.std.specs.Prelude.{◌≡◌, ℕ, ◌+◌, List, [], length, Some, None, Option}
 use Rattle.chart.specs.declared.effects.Effect.{Effect}
 use Rattle.chart.specs.declared.lines.Line.{Line}
 use Rattle.chart.specs.declared.lines.Line.TheVariants as line
@@ -7,8 +7,10 @@ use Rattle.chart.specs.declared.regions.Region.{Region}
 use Rattle.chart.specs.declared.states.State.{State}
 use Rattle.chart.specs.declared.transitions.Transition.{Transition}
 use Rattle.chart.specs.declared.variables.Variable.{Variable}
+use Rattle.std.specs.Borrow.{Bor}
+use Rattle.std.specs.Fn.{Shared}
+use Rattle.std.specs.List.{filter_map}
 use Rattle.structure.specs.Limits.{Few}
-use Rattle.structure.specs.declared.lines.Lines.{Lines}
 
 -- The lines of each kind in their order: a line's number is its place in its list.
 pub record Lists : Type 0 where
@@ -17,16 +19,6 @@ pub record Lists : Type 0 where
   pub states : List State
   pub transitions : List Transition
   pub effects : List Effect
-
-abbrev pub lists_of : Lines → Lists
-lists_of lines =
-    record {
-      variables = vec_items lines.variables;
-      regions = vec_items lines.regions;
-      states = vec_items lines.states;
-      transitions = vec_items lines.transitions;
-      effects = vec_items lines.effects;
-    }
 
 abbrev pub no_lines : Lists
 no_lines = record { variables = []; regions = []; states = []; transitions = []; effects = [] }
@@ -54,15 +46,7 @@ before_transitions lists = before_states lists + length lists.states
 abbrev pub before_effects : Lists → ℕ
 before_effects lists = before_transitions lists + length lists.transitions
 
--- what is picked out of lines, in their order
-abbrev pub onto : {A : Type 0} → Option A → List A → List A
-onto None more = more
-onto (Some a) more = a ∷ more
-
-abbrev pub picked : {A : Type 0} → (Line → Option A) → List Line → List A
-picked pick [] = []
-picked pick (l ∷ ls) = onto (pick l) (picked pick ls)
-
+-- what a line holds, where it is of a kind
 abbrev pub variable_of : Line → Option Variable
 variable_of (line.Variable v) = Some v
 variable_of (line.Region r) = None
@@ -98,13 +82,17 @@ effect_of (line.State s) = None
 effect_of (line.Transition t) = None
 effect_of (line.Effect e) = Some e
 
+-- A closure picks out of a line what a function does.
+abbrev pub Picks : {F A : Type 0} → Shared F (Bor Line × Unit {0}) (Option A) → F → (Line → Option A) → Type 0
+Picks {F} {A} g pick picks = (line : Bor Line) (held : Option A) → g.post pick (line, tt) held → held ≡ picks line.now
+
 -- The lines of a file by their kinds.
 abbrev pub listed : List Line → Lists
 listed lines =
     record {
-      variables = picked variable_of lines;
-      regions = picked region_of lines;
-      states = picked state_of lines;
-      transitions = picked transition_of lines;
-      effects = picked effect_of lines;
+      variables = filter_map variable_of lines;
+      regions = filter_map region_of lines;
+      states = filter_map state_of lines;
+      transitions = filter_map transition_of lines;
+      effects = filter_map effect_of lines;
     }

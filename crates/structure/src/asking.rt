@@ -1,22 +1,37 @@
 //! What every question is asked with.
-ghost use Rattle.std.specs.Prelude.{◌≡◌, ◌+◌, ◌^◌, ◌<◌, length};
+ghost use Rattle.std.specs.Prelude.{◌≡◌, ℕ, ◌+◌, ◌^◌, ◌<◌, Bool, length};
 ghost use Rattle.std.specs.List.{slice_get};
-ghost use Rattle.structure.specs.Verdicts.{first_line};
+ghost use Rattle.faults.specs.declared.charts.ChartFault.{ChartFault};
+ghost use Rattle.linefile.specs.Questions.{AnswersAs};
+ghost use Rattle.structure.specs.Verdicts.{Makes, first_line, refused_at};
 
-use linefile::{Question, first_no};
+use faults::ChartFault;
+use linefile::first_no;
 
-// The line of that number, if there is one.
+// The line of that number, if there is one. Numbers of lines are words; `as usize` brings them here,
+// since `usize::try_from` would have an error that cannot come.
 pub(crate) fn named<L: Copy>(lines: &[L], number: usize) -> Option<L>
     ensures { result ≡ slice_get lines.now number }
 {
     lines.get(number).copied()
 }
 
-// The first line that says no, where so many lines of the file stand before those that are asked.
-pub(crate) fn first_line<L, Q: Question<L>>(question: &Q, before: usize, lines: &[L]) -> Option<u32>
-    requires { before + length lines.now < 2 ^ 32 }
-    ensures { result ≡ first_line before (Q.Question.yes question.now) lines.now }
+// Asks each line, where so many lines of the file stand before them: the first no is refused.
+pub(crate) fn ask<L, F: Fn(usize, &L) -> bool, R: FnOnce(u32) -> ChartFault>(
+    lines: &[L],
+    before: usize,
+    holds: F,
+    fault: R,
+) -> Result<(), ChartFault>
+    requires asks { F.IsAlwaysCallable holds }
+    requires refuses { R.IsAlwaysCallable fault }
+    requires fits { before + length lines.now < 2 ^ 32 }
+    ensures { (says : ℕ → L → Bool) (fault_at : ℕ → ChartFault)
+        → AnswersAs F.Fn holds says → Makes R.FnOnce fault fault_at
+        → result ≡ refused_at fault_at (first_line before says lines.now) }
 {
-    let number = first_no(question, lines)?;
-    Some((before + number) as u32)
+    match first_no(lines, holds) {
+        Some(number) => Err(fault((before + number) as u32)),
+        None => Ok(()),
+    }
 }

@@ -1,5 +1,4 @@
 //! The questions that are asked of a chart's lines, one after another.
-ghost use Rattle.structure.specs.Lists.{lists_of};
 ghost use Rattle.structure.specs.Structure.{structure_verdict};
 ghost use Rattle.structure.specs.Verdicts.{Asked};
 
@@ -15,7 +14,7 @@ use std::alloc::Global;
 
 // Asks questions 6 to 12, where the joinings are numbered up to `joinings`: the first no is told.
 pub(crate) fn check(heap: Global, lines: &Lines, joinings: u32) -> Result<(), ChartFault>
-    ensures { Asked result (structure_verdict joinings (lists_of lines.now)) }
+    ensures { Asked result (structure_verdict joinings lines.now) }
 {
     ask_names(lines, joinings)?;
     ask_roots(lines)?;

@@ -1,22 +1,17 @@
 //! Question 12: what effects write.
 ghost use Rattle.std.specs.Prelude.{◌≡◌};
 ghost use Rattle.structure.specs.Effects.{is_operand, may_join, may_write, reads, write_verdict};
-ghost use Rattle.structure.specs.Lists.{lists_of};
 
-use crate::asking::{first_line, named};
+use crate::asking::{ask, named};
 use crate::lines::Lines;
 use crate::variables::is_input;
 use chart::{Effect, Expression, How, Operand, Variable};
 use faults::ChartFault;
-use linefile::Question;
 
 fn is_operand(variable: u32, operand: Operand) -> bool
     ensures { result ≡ is_operand variable operand }
 {
-    match operand {
-        Operand::Constant(_) => false,
-        Operand::Variable(other) => other == variable,
-    }
+    operand == Operand::Variable(variable)
 }
 
 fn reads(variable: u32, value: Expression) -> bool
@@ -25,7 +20,7 @@ fn reads(variable: u32, value: Expression) -> bool
     is_operand(variable, value.left) || is_operand(variable, value.right)
 }
 
-// Joining wants a joining, and a value that does not read the variable.
+// Joining wants a joining, which 0 is not, and a value that does not read the variable.
 fn may_join(effect: &Effect, variable: Variable) -> bool
     ensures { result ≡ may_join effect.now variable effect.now.how }
 {
@@ -36,27 +31,20 @@ fn may_join(effect: &Effect, variable: Variable) -> bool
 }
 
 // May the effect write its variable so?
-#[derive(Clone, Copy)]
-struct Writing<'a> {
-    lines: &'a Lines,
-}
-
-impl<'a> Question<Effect> for Writing<'a> {
-    ghost yes = { λ question _ e. may_write (lists_of question.lines.now) e };
-
-    fn holds(&self, _number: usize, line: &Effect) -> bool {
-        match named(&self.lines.variables, line.variable as usize) {
-            Some(variable) => !is_input(variable.usage) && may_join(line, variable),
-            None => false,
-        }
-    }
+fn may_write(lines: &Lines, effect: &Effect) -> bool
+    ensures { result ≡ may_write lines.now effect.now }
+{
+    let variable = named(&lines.variables, effect.variable as usize);
+    variable.is_some_and(|variable| !is_input(variable.usage) && may_join(effect, variable))
 }
 
 pub(crate) fn ask_writes(lines: &Lines) -> Result<(), ChartFault>
-    ensures { result ≡ write_verdict (lists_of lines.now) }
+    ensures { result ≡ write_verdict lines.now }
 {
-    match first_line(&Writing { lines }, lines.before_effects(), &lines.effects) {
-        Some(line) => Err(ChartFault::Write(line)),
-        None => Ok(()),
-    }
+    ask(
+        &lines.effects,
+        lines.before_effects(),
+        |_, effect| may_write(lines, effect),
+        ChartFault::Write,
+    )
 }

@@ -1,22 +1,11 @@
 //! Question 6: what lines name.
 ghost use Rattle.std.specs.Prelude.{◌≡◌};
-ghost use Rattle.faults.specs.declared.charts.ChartFault.TheVariants.{Names};
-ghost use Rattle.structure.specs.Lists.{lists_of};
-ghost use Rattle.structure.specs.Names.{effect_names, exists, names_verdict, operands_exist, operand_exists, region_names, state_names, transition_names, variable_names};
-ghost use Rattle.structure.specs.Verdicts.{refused_at};
+ghost use Rattle.structure.specs.Names.{effect_names, exists, names_verdict, operands_exist, operand_exists, region_names, transition_names};
 
-use crate::asking::first_line;
+use crate::asking::ask;
 use crate::lines::Lines;
-use chart::{Effect, Expression, Operand, Region, State, Transition, Variable};
+use chart::{Effect, Expression, Operand, Region, Transition};
 use faults::ChartFault;
-use linefile::Question;
-
-// Does every line that the line names exist, and is a joining at most the last?
-#[derive(Clone, Copy)]
-struct Naming<'a> {
-    lines: &'a Lines,
-    joinings: u32,
-}
 
 fn exists<L>(lines: &[L], number: u32) -> bool
     ensures { result ≡ exists lines.now number }
@@ -25,7 +14,7 @@ fn exists<L>(lines: &[L], number: u32) -> bool
 }
 
 fn operand_exists(lines: &Lines, operand: Operand) -> bool
-    ensures { result ≡ operand_exists (lists_of lines.now) operand }
+    ensures { result ≡ operand_exists lines.now operand }
 {
     match operand {
         Operand::Constant(_) => true,
@@ -34,75 +23,66 @@ fn operand_exists(lines: &Lines, operand: Operand) -> bool
 }
 
 fn operands_exist(lines: &Lines, expression: Expression) -> bool
-    ensures { result ≡ operands_exist (lists_of lines.now) expression }
+    ensures { result ≡ operands_exist lines.now expression }
 {
     operand_exists(lines, expression.left) && operand_exists(lines, expression.right)
 }
 
-impl<'a> Question<Variable> for Naming<'a> {
-    ghost yes = { λ question _ v. variable_names question.joinings v };
-
-    fn holds(&self, _number: usize, line: &Variable) -> bool {
-        line.joining <= self.joinings
-    }
-}
-
-impl<'a> Question<Region> for Naming<'a> {
-    ghost yes = { λ question _ r. region_names (lists_of question.lines.now) r };
-
-    fn holds(&self, _number: usize, line: &Region) -> bool {
-        match line.parent {
-            Some(state) => exists(&self.lines.states, state),
-            None => true,
-        }
-    }
-}
-
-impl<'a> Question<State> for Naming<'a> {
-    ghost yes = { λ question _ s. state_names (lists_of question.lines.now) s };
-
-    fn holds(&self, _number: usize, line: &State) -> bool {
-        exists(&self.lines.regions, line.region)
-    }
-}
-
-impl<'a> Question<Transition> for Naming<'a> {
-    ghost yes = { λ question _ t. transition_names (lists_of question.lines.now) t };
-
-    fn holds(&self, _number: usize, line: &Transition) -> bool {
-        exists(&self.lines.states, line.source)
-            && exists(&self.lines.states, line.target)
-            && operands_exist(self.lines, line.trigger)
-    }
-}
-
-impl<'a> Question<Effect> for Naming<'a> {
-    ghost yes = { λ question _ e. effect_names (lists_of question.lines.now) e };
-
-    fn holds(&self, _number: usize, line: &Effect) -> bool {
-        exists(&self.lines.transitions, line.transition)
-            && exists(&self.lines.variables, line.variable)
-            && operands_exist(self.lines, line.value)
-    }
-}
-
-// Refused at that line, if there is one.
-fn refuse_at(line: Option<u32>) -> Result<(), ChartFault>
-    ensures { result ≡ refused_at Names line }
+fn region_names(lines: &Lines, region: &Region) -> bool
+    ensures { result ≡ region_names lines.now region.now }
 {
-    match line {
-        Some(line) => Err(ChartFault::Names(line)),
-        None => Ok(()),
-    }
+    region
+        .parent
+        .is_none_or(|state| exists(&lines.states, state))
+}
+
+fn transition_names(lines: &Lines, transition: &Transition) -> bool
+    ensures { result ≡ transition_names lines.now transition.now }
+{
+    exists(&lines.states, transition.source)
+        && exists(&lines.states, transition.target)
+        && operands_exist(lines, transition.trigger)
+}
+
+fn effect_names(lines: &Lines, effect: &Effect) -> bool
+    ensures { result ≡ effect_names lines.now effect.now }
+{
+    exists(&lines.transitions, effect.transition)
+        && exists(&lines.variables, effect.variable)
+        && operands_exist(lines, effect.value)
 }
 
 pub(crate) fn ask_names(lines: &Lines, joinings: u32) -> Result<(), ChartFault>
-    ensures { result ≡ names_verdict joinings (lists_of lines.now) }
+    ensures { result ≡ names_verdict joinings lines.now }
 {
-    let question = Naming { lines, joinings };
-    refuse_at(first_line(&question, 0, &lines.variables))?;
-    refuse_at(first_line(&question, lines.before_regions(), &lines.regions))?;
-    refuse_at(first_line(&question, lines.before_states(), &lines.states))?;
-    refuse_at(first_line(&question, lines.before_transitions(), &lines.transitions))?;
-    refuse_at(first_line(&question, lines.before_effects(), &lines.effects))
+    ask(
+        &lines.variables,
+        0,
+        |_, variable| variable.joining <= joinings,
+        ChartFault::Names,
+    )?;
+    ask(
+        &lines.regions,
+        lines.before_regions(),
+        |_, region| region_names(lines, region),
+        ChartFault::Names,
+    )?;
+    ask(
+        &lines.states,
+        lines.before_states(),
+        |_, state| exists(&lines.regions, state.region),
+        ChartFault::Names,
+    )?;
+    ask(
+        &lines.transitions,
+        lines.before_transitions(),
+        |_, transition| transition_names(lines, transition),
+        ChartFault::Names,
+    )?;
+    ask(
+        &lines.effects,
+        lines.before_effects(),
+        |_, effect| effect_names(lines, effect),
+        ChartFault::Names,
+    )
 }

@@ -1,6 +1,6 @@
 //! Reading a chart file into its lines.
-ghost use Rattle.structure.specs.Charts.{Exactly, Settles, Told, verdict};
-ghost use Rattle.structure.specs.Lists.{lists_of};
+ghost use Rattle.structure.specs.Charts.{Exactly, Settles, verdict};
+ghost use Rattle.structure.specs.Verdicts.{Asked};
 
 use crate::checking::check;
 use crate::lines::Lines;
@@ -12,7 +12,7 @@ use std::alloc::Global;
 
 // The lines of a file that gets yes to all questions.
 fn read_chart(heap: Global, text: &[u8], joinings: u32) -> Result<Lines, ChartFault>
-    ensures { Told (verdict joinings text.now) result }
+    ensures { Asked result (verdict joinings text.now) }
 {
     let read: Vec<Line> = read_lines(heap, text)?;
     let lines = sorted(heap, &read)?;
@@ -22,26 +22,19 @@ fn read_chart(heap: Global, text: &[u8], joinings: u32) -> Result<Lines, ChartFa
 
 // Reading, where a refusal leaves no lines.
 fn read_into(lines: &mut Lines, heap: Global, text: &[u8], joinings: u32) -> Result<(), ChartFault>
-    ensures { Settles (verdict joinings text.now) (result, lists_of lines.new) }
+    ensures { Settles (verdict joinings text.now) (result, lines.new) }
 {
-    match read_chart(heap, text, joinings) {
-        Ok(read) => {
-            *lines = read;
-            Ok(())
-        }
-        Err(fault) => {
-            *lines = Lines::new(heap);
-            Err(fault)
-        }
-    }
+    *lines = Lines::new(heap);
+    *lines = read_chart(heap, text, joinings)?;
+    Ok(())
 }
 
 impl Lines {
     /// Reads the lines of a chart file, in which joinings are numbered up to `joinings`. A file
     /// that is refused leaves no lines.
     pub fn read(&mut self, heap: Global, text: &[u8], joinings: u32) -> Result<(), ChartFault>
-        ensures all { Settles (verdict joinings text.now) (result, lists_of self.new) }
-        ensures exactly { Exactly joinings text.now (result, lists_of self.new) }
+        ensures all { Settles (verdict joinings text.now) (result, self.new) }
+        ensures exactly { Exactly joinings text.now (result, self.new) }
     {
         read_into(self, heap, text, joinings)
     }

@@ -1,25 +1,20 @@
 //! Question 8: the regions above a region.
 ghost use Rattle.std.specs.Prelude.{◌≡◌, length};
-ghost use Rattle.structure.specs.Lists.{lists_of};
 ghost use Rattle.structure.specs.Rings.{is_below, parent_lies_in, rings_verdict};
 ghost use Rattle.structure.specs.Verdicts.{Asked};
 
 use crate::asking::named;
 use crate::lines::Lines;
 use faults::ChartFault;
-use graph::{Graph, Ranking, rank};
+use graph::{Graph, Unranked, rank};
 use std::alloc::Global;
 
 fn parent_lies_in(lines: &Lines, region: usize, parent: Option<u32>) -> bool
-    ensures { result ≡ parent_lies_in (lists_of lines.now) region parent }
+    ensures { result ≡ parent_lies_in lines.now region parent }
 {
-    let Some(state) = parent else {
-        return false;
-    };
-    match named(&lines.states, state as usize) {
-        Some(state) => state.region as usize == region,
-        None => false,
-    }
+    parent
+        .and_then(|state| named(&lines.states, state as usize))
+        .is_some_and(|state| state.region as usize == region)
 }
 
 // The regions, each followed by the one of its parent state.
@@ -29,27 +24,30 @@ struct RegionGraph<'a> {
 }
 
 impl<'a> Graph for RegionGraph<'a> {
-    ghost nodes = { λ graph. length (lists_of graph.lines.now).regions };
+    ghost nodes = { λ graph. length graph.lines.now.regions };
 
-    ghost follows = { λ graph region above. is_below (lists_of graph.lines.now) region above };
+    ghost follows = { λ graph region above. is_below graph.lines.now region above };
 
     fn node_count(&self) -> usize {
-        self.lines.regions.len()
+        let lines = self.lines;
+        lines.regions.len()
     }
 
     fn is_follower(&self, node: usize, other: usize) -> bool {
-        match named(&self.lines.regions, node) {
-            Some(region) => parent_lies_in(self.lines, other, region.parent),
-            None => false,
-        }
+        let lines = self.lines;
+        let region = named(&lines.regions, node);
+        region.is_some_and(|region| parent_lies_in(lines, other, region.parent))
     }
 }
 
 pub(crate) fn ask_rings(heap: Global, lines: &Lines) -> Result<(), ChartFault>
-    ensures { Asked result (rings_verdict (lists_of lines.now)) }
+    ensures { Asked result (rings_verdict lines.now) }
 {
-    match rank(heap, &RegionGraph { lines })? {
-        Ranking::Ranks(_) => Ok(()),
-        Ranking::Loop(region) => Err(ChartFault::Ring((lines.before_regions() + region) as u32)),
+    match rank(heap, &RegionGraph { lines }) {
+        Ok(_) => Ok(()),
+        Err(Unranked::Loop(region)) => {
+            Err(ChartFault::Ring((lines.before_regions() + region) as u32))
+        }
+        Err(Unranked::Memory(short)) => Err(short.into()),
     }
 }

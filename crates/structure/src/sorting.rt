@@ -1,98 +1,52 @@
 //! The lines of a file, sorted by kind.
 ghost use Rattle.std.specs.Prelude.{◌≡◌, IfOk, Option};
+ghost use Rattle.std.specs.List.{filter_map};
 ghost use Rattle.chart.specs.declared.lines.Line.{Line};
-ghost use Rattle.structure.specs.Lists.{Limited, effect_of, listed, lists_of, picked, region_of, state_of, transition_of, variable_of};
+ghost use Rattle.structure.specs.Lists.{Limited, Picks, listed};
 
 use crate::lines::Lines;
-use chart::{Effect, Line, Region, State, Transition, Variable};
+use chart::Line;
 use std::alloc::{AllocError, Global};
 
-// What a line holds, where it is of this kind.
-trait Pick: Sized {
-    ghost picks: { Line → Option Self };
-
-    fn pick(line: &Line) -> Option<Self>
-        ensures { result ≡ picks line.now };
-}
-
-impl Pick for Variable {
-    ghost picks = { variable_of };
-
-    fn pick(line: &Line) -> Option<Variable> {
-        match line {
-            Line::Variable(variable) => Some(*variable),
-            _ => None,
-        }
-    }
-}
-
-impl Pick for Region {
-    ghost picks = { region_of };
-
-    fn pick(line: &Line) -> Option<Region> {
-        match line {
-            Line::Region(region) => Some(*region),
-            _ => None,
-        }
-    }
-}
-
-impl Pick for State {
-    ghost picks = { state_of };
-
-    fn pick(line: &Line) -> Option<State> {
-        match line {
-            Line::State(state) => Some(*state),
-            _ => None,
-        }
-    }
-}
-
-impl Pick for Transition {
-    ghost picks = { transition_of };
-
-    fn pick(line: &Line) -> Option<Transition> {
-        match line {
-            Line::Transition(transition) => Some(*transition),
-            _ => None,
-        }
-    }
-}
-
-impl Pick for Effect {
-    ghost picks = { effect_of };
-
-    fn pick(line: &Line) -> Option<Effect> {
-        match line {
-            Line::Effect(effect) => Some(*effect),
-            _ => None,
-        }
-    }
-}
-
 // What the lines of a kind hold, in their order.
-fn pick_all<L: Pick + Copy>(heap: Global, lines: &[Line]) -> Result<Vec<L>, AllocError>
-    ensures { IfOk result (λ all. all.items ≡ picked L.Pick.picks lines.now) }
+fn pick_all<T: Drop, F: Fn(&Line) -> Option<T>>(
+    heap: Global,
+    lines: &[Line],
+    pick: F,
+) -> Result<Vec<T>, AllocError>
+    requires { F.IsAlwaysCallable pick }
+    ensures { (picks : Line → Option T) → Picks F.Fn pick picks
+        → IfOk result (λ all. all.items ≡ filter_map picks lines.now) }
 {
-    let mut all = Vec::new(heap);
-    for line in lines {
-        if let Some(held) = L::pick(line) {
-            all.push(held)?;
-        }
-    }
-    Ok(all)
+    // called from a closure: `filter_map(pick)` would ask that any value of `F` may be called
+    lines.iter().filter_map(|line| pick(line)).collect(heap)
 }
 
 // The lines of a file that keeps the limits.
 pub(crate) fn sorted(heap: Global, lines: &[Line]) -> Result<Lines, AllocError>
     requires { Limited (listed lines.now) }
-    ensures { IfOk result (λ all. lists_of all ≡ listed lines.now) }
+    ensures { IfOk result (λ all. all ≡ listed lines.now) }
 {
     Ok(Lines {
-        variables: pick_all(heap, lines)?,
-        regions: pick_all(heap, lines)?,
-        states: pick_all(heap, lines)?,
-        transitions: pick_all(heap, lines)?,
-        effects: pick_all(heap, lines)?,
+        variables: pick_all(heap, lines, |line| match line {
+            Line::Variable(variable) => Some(*variable),
+            _ => None,
+        })?,
+        regions: pick_all(heap, lines, |line| match line {
+            Line::Region(region) => Some(*region),
+            _ => None,
+        })?,
+        states: pick_all(heap, lines, |line| match line {
+            Line::State(state) => Some(*state),
+            _ => None,
+        })?,
+        transitions: pick_all(heap, lines, |line| match line {
+            Line::Transition(transition) => Some(*transition),
+            _ => None,
+        })?,
+        effects: pick_all(heap, lines, |line| match line {
+            Line::Effect(effect) => Some(*effect),
+            _ => None,
+        })?,
     })
 }
