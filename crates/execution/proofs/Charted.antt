@@ -1,29 +1,27 @@
 -- What reading the chart tells of the output.
-use Rattle.std.proofs.Common.{◌≡◌, ℕ, ◌⊎◌, List, Ok, Err, Option, Result, ap, inl, inr, arith}
+use Rattle.std.proofs.Common.{◌≡◌, ℕ, ◌⊎◌, List, Ok, Err, Option, Result, sym, ap, inl, inr, alloc_error}
 use Rattle.structure.specs.Charts.{Settles}
 use Rattle.structure.specs.Lists.{Lists}
-use Rattle.structure.specs.Variables.{input_count}
 use Rattle.structure.specs.Verdicts.{Verdict}
 use Rattle.faults.specs.declared.charts.ChartFault.{ChartFault}
 use Rattle.faults.specs.declared.charts.ChartFault.TheVariants.{Memory}
-use Rattle.execution.specs.Output.{charted, refusal, traced, width_of}
+use Rattle.faults.specs.OutputFaults.{refusal_of}
+use Rattle.faults.specs.declared.outputs.Fault.{Fault}
 use Rattle.faults.specs.declared.outputs.Fault.TheVariants.{Chart}
+use Rattle.execution.specs.Output.{charted, width_of}
+use Rattle.execution.specs.Stops.{StopsChart, Tells}
+use Rattle.execution.specs.declared.stops.Stop.{Stop}
+use Rattle.execution.specs.declared.stops.Stop.TheVariants as stopped
 
-first : Verdict × Lists → Verdict
-first p = p.0
+-- a chart that is refused gives no width, and says why
+pub width_stop : (found : Result Lists ChartFault) (fault : ChartFault) (left : Verdict × Lists) → left.0 ≡ Err fault → Settles found left → (◌≡◌ {A = Result ℕ ChartFault} (Err fault) (Err (Memory alloc_error))) ⊎ (Err fault ≡ width_of found)
+width_stop found fault left told (inl e) = let z : fault ≡ Memory alloc_error = cc in inl (ap Err z)
+width_stop (Ok other) fault left told (inr e) = cc
+width_stop (Err other) fault left told (inr e) = let z : fault ≡ other = cc in inr (ap Err z)
 
-pub width_stop : (found : Result Lists ChartFault) (fault : ChartFault) (lists : Lists) → Settles found (Err fault, lists) → (◌≡◌ {A = Result ℕ ChartFault} (Err fault) (Err Memory)) ⊎ (Err fault ≡ width_of found)
-unfolding first
-width_stop found fault lists (inl e) = let z : fault ≡ Memory = cc (ap first e) in inl (ap Err z)
-width_stop (Ok other) fault lists (inr e) = let z : ◌≡◌ {A = ℕ} 0 1 = cc (ap first e) in absurd (omega arith)
-width_stop (Err other) fault lists (inr e) = let z : fault ≡ other = cc (ap first e) in inr (ap Err z)
-
-pub charted_stop : (found : Result Lists ChartFault) (fault : ChartFault) (trace : Option (List ℕ)) → (fault ≡ Memory → ⊥) → (◌≡◌ {A = Result ℕ ChartFault} (Err fault) (Err Memory)) ⊎ (Err fault ≡ width_of found) → refusal (Chart fault) 0 ≡ charted found trace
-charted_stop found fault trace other (inl e) = let z : fault ≡ Memory = cc in absurd (other z)
-charted_stop (Ok lists) fault trace other (inr e) = let z : ◌≡◌ {A = ℕ} 0 1 = cc in absurd (omega arith)
-charted_stop (Err told) fault trace other (inr e) = let z : fault ≡ told = cc in ap (λ (f : ChartFault). refusal (Chart f) 0) z
-
-pub charted_go : (found : Result Lists ChartFault) (width : ℕ) (trace : Option (List ℕ)) → (◌≡◌ {A = Result ℕ ChartFault} (Ok width) (Err Memory)) ⊎ (Ok width ≡ width_of found) → traced width trace ≡ charted found trace
-charted_go found width trace (inl e) = let z : ◌≡◌ {A = ℕ} 0 1 = cc in absurd (omega arith)
-charted_go (Ok lists) width trace (inr e) = let z : width ≡ input_count lists = cc in ap (λ (n : ℕ). traced n trace) z
-charted_go (Err told) width trace (inr e) = let z : ◌≡◌ {A = ℕ} 0 1 = cc in absurd (omega arith)
+-- what stops at the chart tells the output
+pub chart_tells : (found : Result Lists ChartFault) (fault : ChartFault) (trace : Option (List ℕ)) (stop : Stop) → (◌≡◌ {A = Result ℕ ChartFault} (Err fault) (Err (Memory alloc_error))) ⊎ (Err fault ≡ width_of found) → StopsChart fault stop → Tells (charted found trace) stop
+chart_tells found fault trace (stopped.Memory short) e stops = tt
+chart_tells found fault trace (stopped.Refused told) (inl e) stops = let z : fault ≡ Memory alloc_error = cc in absurd (stops.1 z)
+chart_tells (Ok lists) fault trace (stopped.Refused told) (inr e) stops = cc
+chart_tells (Err other) fault trace (stopped.Refused told) (inr e) stops = let z : told ≡ Chart other = cc (stops.0, e) in ap (λ (f : Fault). refusal_of f 0) (sym z)

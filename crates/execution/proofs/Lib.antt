@@ -1,4 +1,2 @@
-pub mod Charted
-pub mod Echo
-pub mod FirstLines
-pub mod Steps
+mod Charted
+mod Echo

@@ -2,5 +2,6 @@
 #![tactic(auto)]
 
 mod output;
+mod stops;
 
 pub use output::{MOST_BYTES, execute};

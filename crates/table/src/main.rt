@@ -2,40 +2,52 @@
 //! `;`, in which `/` stands for byte 10. For each it prints the name and the output, written so.
 #![tactic(auto)]
 
+ghost use Rattle.std.specs.Prelude.{◌≡◌, ◌==◌, if◌then◌else◌, IfOk, map};
+
 use std::alloc::{AllocError, Global};
 use std::io;
 use std::io::{BufRead, BufReader, Write};
-use text::find;
+use text::NEWLINE;
 
 const APART: u8 = b';';
 
 const SHOWN: u8 = b'/';
 
-const NEWLINE: u8 = text::NEWLINE;
-
 // The bytes, with one byte for another.
-fn with_byte(heap: Global, bytes: &[u8], old: u8, new: u8) -> Result<Vec<u8>, AllocError> {
-    let mut changed = bytes.to_vec(heap)?;
-    for byte in &mut changed {
-        if *byte == old {
-            *byte = new;
-        }
-    }
-    Ok(changed)
+fn with_byte(heap: Global, bytes: &[u8], old: u8, new: u8) -> Result<Vec<u8>, AllocError>
+    ensures { IfOk result (λ changed.
+        changed.items ≡ map (λ byte. if byte == old then new else byte) bytes.now) }
+{
+    bytes
+        .iter()
+        .map(|byte| if *byte == old { new } else { *byte })
+        .collect(heap)
 }
 
-// What is printed for a case: nothing where the line is none.
-fn run_case(heap: Global, line: &[u8]) -> Result<Vec<u8>, AllocError> {
-    let Some(name) = find(line, APART, 0) else {
-        return Ok(Vec::new(heap));
-    };
-    let Some(chart) = find(line, APART, name + 1) else {
-        return Ok(Vec::new(heap));
-    };
-    let chart_text = with_byte(heap, &line[name + 1..chart], SHOWN, NEWLINE)?;
-    let trace_text = with_byte(heap, &line[chart + 1..], SHOWN, NEWLINE)?;
-    let output = execution::execute(heap, Some(chart_text), Some(trace_text))?;
-    let mut shown = line[0..name].to_vec(heap)?;
+// A case, as its line writes it.
+#[derive(Clone, Copy)]
+struct Case<'a> {
+    name: &'a [u8],
+    chart: &'a [u8],
+    trace: &'a [u8],
+}
+
+// The case of a line, if it is one.
+fn parse_case(line: &[u8]) -> Option<Case> {
+    let mut parts = line.splitn(3, |byte| *byte == APART);
+    Some(Case {
+        name: parts.next()?,
+        chart: parts.next()?,
+        trace: parts.next()?,
+    })
+}
+
+// What is printed for a case.
+fn run_case(heap: Global, case: Case) -> Result<Vec<u8>, AllocError> {
+    let chart = with_byte(heap, case.chart, SHOWN, NEWLINE)?;
+    let trace = with_byte(heap, case.trace, SHOWN, NEWLINE)?;
+    let output = execution::execute(heap, Some(&chart), Some(&trace))?;
+    let mut shown = case.name.to_vec(heap)?;
     shown.extend_from_slice(b": ")?;
     shown.extend_from_slice(&with_byte(heap, &output, NEWLINE, SHOWN)?)?;
     shown.push(NEWLINE)?;
@@ -45,8 +57,9 @@ fn run_case(heap: Global, line: &[u8]) -> Result<Vec<u8>, AllocError> {
 fn main(rt: HostRuntime) -> io::Result<()> {
     let mut out = rt.stdout();
     for line in BufReader::new(rt.alloc(), rt.stdin())?.lines(rt.alloc()) {
-        let shown = run_case(rt.alloc(), line?.as_bytes())?;
-        out.write_all(&shown)?;
+        if let Some(case) = parse_case(line?.as_bytes()) {
+            out.write_all(&run_case(rt.alloc(), case)?)?;
+        }
     }
     Ok(())
 }
