@@ -1,4 +1,5 @@
 //! The rules of rows on examples.
+use refusal::Refusal;
 use row::*;
 use std::process::Abort;
 
@@ -6,8 +7,8 @@ use std::process::Abort;
 fn long_text() -> [u8; 2000] {
     let word = *b"4294967295,";
     let mut text = [b'\n'; 2000];
-    for i in 0..703 {
-        text[1200 + i] = word[i % 11];
+    for (byte, digit) in text[1200..1903].iter_mut().zip(word.iter().cycle()) {
+        *byte = *digit;
     }
     text
 }

@@ -95,6 +95,24 @@ fn no_field_is_past_the_end(rt: HostRuntime) {
 }
 
 #[test]
+fn fields_are_counted_and_numbered(rt: HostRuntime) {
+    assert_eq!(rt; Fields::new(b"a,,bc", 0).count(), 3);
+    for (number, field) in Fields::new(b"0,1,2", 0).enumerate() {
+        assert_eq!(rt; field.place, 2 * number);
+    }
+}
+
+#[test]
+fn a_line_keeps_its_byte_10(rt: HostRuntime) {
+    let mut lines = Lines::new(b"a\n\nbc");
+    for expected in [b"a\n".as_slice(), b"\n", b"bc"] {
+        assert_eq!(rt; lines.next(), Some(expected));
+    }
+    assert!(rt; lines.next().is_none());
+    assert!(rt; Lines::new(b"").next().is_none());
+}
+
+#[test]
 fn the_first_such_byte_at_or_after_a_place(rt: HostRuntime) {
     let cases = [
         (b'b', 0, Some(1)),

@@ -13,7 +13,7 @@ fn a_trace_comes_out_as_it_went_in(rt: HostRuntime) -> Result<(), Fail> {
         b"4294967295,0,1\n",
     ];
     for trace in traces {
-        let output = execute(rt.alloc(), Some(trace.to_vec(rt.alloc())?))?;
+        let output = execute(rt.alloc(), Some(trace))?;
         assert_eq!(rt; output.as_slice(), trace);
     }
     Ok(())
@@ -36,7 +36,7 @@ fn a_refusal_ends_the_output(rt: HostRuntime) -> Result<(), Fail> {
         (b"1\n2", b"1\nrefused,3,16,0,1\n"),
     ];
     for (trace, expected) in cases {
-        let output = execute(rt.alloc(), Some(trace.to_vec(rt.alloc())?))?;
+        let output = execute(rt.alloc(), Some(trace))?;
         assert_eq!(rt; output.as_slice(), expected);
     }
     Ok(())
@@ -45,7 +45,7 @@ fn a_refusal_ends_the_output(rt: HostRuntime) -> Result<(), Fail> {
 #[test]
 fn the_longest_trace(rt: HostRuntime) -> Result<(), Fail> {
     let longest = vec![in rt.alloc(); b'\n'; 32768]?;
-    let output = execute(rt.alloc(), Some(longest.clone()?))?;
+    let output = execute(rt.alloc(), Some(&longest))?;
     assert_eq!(rt; output.as_slice(), longest.as_slice());
     Ok(())
 }
@@ -53,7 +53,7 @@ fn the_longest_trace(rt: HostRuntime) -> Result<(), Fail> {
 #[test]
 fn a_trace_that_is_too_long(rt: HostRuntime) -> Result<(), Fail> {
     let long = vec![in rt.alloc(); b'\n'; 32769]?;
-    let output = execute(rt.alloc(), Some(long))?;
+    let output = execute(rt.alloc(), Some(&long))?;
     assert_eq!(rt; output.as_slice(), b"refused,5,27,1,0\n".as_slice());
     Ok(())
 }
@@ -72,7 +72,7 @@ fn a_row_of_65_words_is_too_wide(rt: HostRuntime) -> Result<(), Fail> {
         trace.extend_from_slice(b"7,")?;
     }
     trace.extend_from_slice(b"7\n")?;
-    let output = execute(rt.alloc(), Some(trace))?;
+    let output = execute(rt.alloc(), Some(&trace))?;
     assert_eq!(rt; output.as_slice(), b"refused,3,15,0,0\n".as_slice());
     Ok(())
 }

@@ -1,7 +1,8 @@
 //! The rules of charts on examples. Crate `table` has the verdicts on many more.
 use chart::{Kind, Operand, Operator};
 use faults::{ChartFault, FileFault, LineFault};
-use std::alloc::Global;
+use refusal::Refusal;
+use std::alloc::{AllocError, Global};
 use std::process::Abort;
 use structure::Lines;
 
@@ -56,6 +57,6 @@ fn a_fault_carries_the_one_below(rt: HostRuntime) {
     assert_eq!(rt; (chart.number(), chart.place()), (4, 7));
     let file: ChartFault = FileFault::Bytes.into();
     assert_eq!(rt; (file.number(), file.place()), (1, 0));
-    let memory: ChartFault = FileFault::Memory.into();
+    let memory: ChartFault = FileFault::Memory(AllocError).into();
     assert_eq!(rt; (memory.number(), memory.place()), (0, 0));
 }

@@ -1,6 +1,7 @@
 //! The rules of executions on examples.
 use execution::execute;
 use faults::{ChartFault, Fault, LineFault};
+use refusal::Refusal;
 use row::RowFault;
 use std::alloc::Global;
 use std::process::Abort;
@@ -25,7 +26,7 @@ fn check_output(
     expected: &[u8],
 ) -> Result<(), Fail> {
     let chart = chart_of(heap, inputs)?;
-    let output = execute(heap, Some(chart), Some(trace.to_vec(heap)?))?;
+    let output = execute(heap, Some(&chart), Some(trace))?;
     assert_eq!(rt; output.as_slice(), expected);
     Ok(())
 }
@@ -92,7 +93,8 @@ fn files_that_cannot_be_read(rt: HostRuntime) -> Result<(), Fail> {
     let heap = rt.alloc();
     let output = execute(heap, None, None)?;
     assert_eq!(rt; output.as_slice(), b"refused,5,27,0,0\n".as_slice());
-    let output = execute(heap, Some(chart_of(heap, 1)?), None)?;
+    let chart = chart_of(heap, 1)?;
+    let output = execute(heap, Some(&chart), None)?;
     assert_eq!(rt; output.as_slice(), b"refused,5,27,1,0\n".as_slice());
     Ok(())
 }
@@ -107,7 +109,7 @@ fn a_chart_is_refused_before_the_trace(rt: HostRuntime) -> Result<(), Fail> {
         (b"V,0,i,4,0\n", b"refused,2,6,0,0\n"),
     ];
     for (chart, expected) in cases {
-        let output = execute(heap, Some(chart.to_vec(heap)?), None)?;
+        let output = execute(heap, Some(chart), None)?;
         assert_eq!(rt; output.as_slice(), expected);
     }
     Ok(())
@@ -122,7 +124,6 @@ fn faults_tell_their_layer_number_and_place(rt: HostRuntime) {
     let chart: Fault = ChartFault::Ring(2).into();
     assert!(rt; chart.layer() == 2 && chart.number() == 8 && chart.place() == 2);
     assert!(rt; Fault::ChartFile.layer() == 5 && Fault::ChartFile.place() == 0);
-    assert!(rt;
-        Fault::Trace.layer() == 5 && Fault::Trace.number() == 27 && Fault::Trace.place() == 1
-    );
+    let trace: Fault = trace::Fault::Trace.into();
+    assert!(rt; trace.layer() == 5 && trace.number() == 27 && trace.place() == 1);
 }
