@@ -1,4 +1,5 @@
-//! What a node reaches, in a row of cells.
+//! What a node reaches, in a row of cells. A node is a number below their count, and each step asks
+//! for it: a type for it would have to name its table.
 ghost use Rattle.std.specs.Prelude.{◌≡◌, ◌<◌, ◌||◌, length, map, All, IfOk};
 ghost use Rattle.graph.specs.Graphs.{by_way_of};
 ghost use Rattle.graph.specs.Tables.{IsSquare, cell, gone_on, marked, row_of, square};

@@ -76,7 +76,8 @@ fn one_more(count: u32) -> u32
     count.saturating_add(1)
 }
 
-/// Whether the number is the one after the count. None is after 4,294,967,295.
+/// Whether the number is the one after the count. None is after 4,294,967,295. A private step: a
+/// test of ranking has one of its own, of another type.
 fn is_next(count: u32, number: u32) -> bool
     ensures { result ≡ eqb number (count + 1) }
 {

@@ -2,7 +2,7 @@
 use Rattle.std.specs.Prelude.{ℕ, List, [], ◌∷◌, ◌++◌, map, decimal}
 use Rattle.text.specs.Fields.{with_commas}
 
--- byte 10, which ends a row
+-- byte 10, which ends a row, and of a text a line: two rules with one number
 abbrev pub newline : ℕ
 newline = 10
 

@@ -80,7 +80,9 @@ impl<'a> Line<'a> {
         ensures len { length words.new ≡ length words.old }
         ensures words { words_or result words.new ≡ field_words (fields self.now) }
     {
-        // by number, since after a zip over `iter_mut` nothing is known of the words
+        // By number, since after a zip over `iter_mut` nothing is known of the words. A row has at
+        // most 704 fields, so places and counts fit a word, and `try_from` would have an error that
+        // cannot come.
         for (at, field) in Fields::new(self.bytes, 0).enumerate() {
             words[at] = parse_word(field.text).ok_or(RowFault::NoNumber(at as u32))?;
         }

@@ -15,6 +15,7 @@ fn read_into(text: &[u8], place: usize, row: &mut [u32]) -> Result<usize, RowFau
     ensures again { IfOk result (λ end. Rewrites text.now place end row.new) }
 {
     let line = Line::at(text, place).ok_or(RowFault::Unended)?;
+    // fixed memory, since a row is read without a heap
     let mut memory = [0; MOST_WORDS];
     let words = &mut memory[..row.len()];
     line.parse(words)?;
@@ -22,6 +23,8 @@ fn read_into(text: &[u8], place: usize, row: &mut [u32]) -> Result<usize, RowFau
     Ok(place + line.len() + 1)
 }
 
+// The place goes with the text and is no part of it: one past the end gets an answer, where a part
+// would ask it of the caller.
 /// Reads the row at a place into the row handed in: the place after its byte 10.
 pub fn read(text: &[u8], place: usize, row: &mut [u32]) -> Result<usize, RowFault>
     ensures all { (result, row.new) ≡ read_row text.now place row.old }

@@ -1,4 +1,4 @@
--- What a reader of fields or of lines has still to read.
+-- What a reader of fields or of lines has still to read. A function and no model, since clauses name the text and the next place too, which the parts alone would hide.
 use Rattle.std.specs.Prelude.{ℕ, List}
 use Rattle.text.specs.Fields.{fields_from}
 use Rattle.text.specs.Lines.{lines}

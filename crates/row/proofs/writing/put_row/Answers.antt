@@ -4,18 +4,9 @@ use Rattle.std.proofs.lemmas.Slice.{first_rest}
 use Rattle.text.proofs.Overwriting.{overwritten_one}
 use Rattle.text.specs.Parts.{overwritten}
 use Rattle.row.specs.Rows.{row_bytes}
-use Rattle.row.proofs.Lengths.{length_row}
 use Rattle.row.proofs.Rereading.{rereads}
 use Rattle.row.proofs.Rewriting.{write_fits}
 use Rattle.row.proofs.writing.put_row.Goals as goal
-
-pub bounds-text-0 : goal.bounds-text-0
-bounds-text-0 c = omega (arith, c.requires, length_row c.args.row.now)
-
-pub put_words-requires : goal.put_words-requires
-put_words-requires c =
-    let some : 0 < length c.args.row.now = search rules in
-    omega (arith, c.requires, ap (λ (ws : List ℕ). length (row_bytes ws)) (first_rest c.args.row.now 0 some))
 
 pub returns-in-empty : goal.returns-in-empty
 returns-in-empty c =

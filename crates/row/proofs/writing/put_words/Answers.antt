@@ -1,22 +1,7 @@
-use Rattle.std.proofs.Common.{ℕ, ◌+◌, List, drop, ◌∙◌, ap₂, arith, length-set}
+use Rattle.std.proofs.Common.{ℕ, ◌+◌, List, drop, ◌∙◌, ap₂, arith}
 use Rattle.text.specs.Parts.{overwritten}
 use Rattle.row.proofs.Tails.{tail, length_row_first, length_tail_at, length_tail_end, length_tail_some, row_more, tail_at, tail_end}
 use Rattle.row.proofs.writing.put_words.Goals as goal
-
-pub put_word-place-requires : goal.put_word-place-requires
-put_word-place-requires c = omega (arith, c.requires, length_row_first c.args.first c.args.rest.now)
-
-pub bounds-text-place : goal.bounds-text-place
-bounds-text-place c =
-    omega (arith, length_row_first c.args.first c.args.rest.now, length_tail_some (drop c.loop-word.word-index c.args.rest.now))
-
-pub overflow_add-place : goal.overflow_add-place
-overflow_add-place c =
-    omega (arith, length_row_first c.args.first c.args.rest.now, length_tail_some (drop c.loop-word.word-index c.args.rest.now))
-
-pub put_word-place-requires-in-loop-word : goal.put_word-place-requires-in-loop-word
-put_word-place-requires-in-loop-word c =
-    omega (arith, length_row_first c.args.first c.args.rest.now, length_tail_at c.args.rest.now c.loop-word.word-index c.loop-word-test.true, length-set c.loop-word.text c.loop-word.place 44)
 
 pub loop-word-preserved : goal.loop-word-preserved
 loop-word-preserved c =
@@ -30,14 +15,6 @@ loop-word-preserved c =
           ∙ c.loop-word.invariant.0,
       omega arith,
     )
-
-pub bounds-text-place-2 : goal.bounds-text-place-2
-bounds-text-place-2 c =
-    omega (arith, length_row_first c.args.first c.args.rest.now, length_tail_some (drop c.loop-word.word-index c.args.rest.now))
-
-pub overflow_add-result : goal.overflow_add-result
-overflow_add-result c =
-    omega (arith, length_row_first c.args.first c.args.rest.now, length_tail_some (drop c.loop-word.word-index c.args.rest.now))
 
 pub returns : goal.returns
 returns c =
