@@ -5,6 +5,7 @@ use files::read_file;
 use std::io;
 use std::io::Write;
 
+// Each program names its files and tests its own limit: a program calls no other.
 const TRACE: &str = "trace.txt";
 
 fn main(rt: HostRuntime) -> io::Result<()> {

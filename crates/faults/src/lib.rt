@@ -1,5 +1,5 @@
-//! Everything that is refused: each fault with the number of its question and its place. The fault
-//! of a lower layer is carried whole in the layer above.
+//! What is refused of a chart, and of an execution with one: each fault with its layer, the number
+//! of its question and its place. The fault of a lower layer is carried whole in the layer above.
 #![tactic(auto)]
 
 mod charts;

@@ -17,6 +17,7 @@ fn read_front<R: Read + Drop>(heap: Global, reader: R, most: usize) -> io::Resul
         IfSome (R.remaining reader) (λ all. bytes.items ≡ take most all)) }
 {
     let mut bytes = Vec::new(heap);
+    // `as` loses nothing: a `usize` has 64 bits
     reader.take(most as u64).read_to_end(&mut bytes)?;
     bytes.truncate(most);
     Ok(bytes)

@@ -1,4 +1,4 @@
--- What an execution writes. Until charts can be loaded, the outputs of a row are its inputs.
+-- What an execution writes. Until charts are run, the outputs of a row are its inputs.
 use Rattle.std.specs.Prelude.{◌≡◌, ℕ, suc, ◌≤◌, ◌⊎◌, List, [], ◌∷◌, ◌++◌, length, take, Some, None, Ok, Err, Option, Result}
 use Rattle.std.specs.List.{flat_map}
 use Rattle.text.specs.Lines.{lines}

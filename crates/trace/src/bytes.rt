@@ -7,7 +7,7 @@ ghost use Rattle.trace.specs.Traces.{longest, trace_of};
 use crate::faults::Fault;
 use std::marker::Model;
 
-/// The bytes of the longest trace.
+/// The bytes of the longest trace. A line file has a limit of its own, which is the same number.
 pub const MOST_BYTES: usize = 32768;
 
 /// The bytes of a trace that could be read and is not too long.
@@ -35,7 +35,7 @@ impl<'a> Trace<'a> {
         }
     }
 
-    /// How many words the first row has, 0 where there is none.
+    /// How many words the first row has, 0 where there is none, as `row::width` says.
     pub fn width(&self) -> usize
         ensures { result ≡ width_at self.now 0 }
     {

@@ -22,7 +22,8 @@ fn row_text<'a>(row: &[u32], text: &'a mut [u8]) -> &'a [u8]
     &text[..len]
 }
 
-// One row more, which is not too wide.
+// One row more, which is not too wide. It is written in memory that is lent, as every row is: 704
+// bytes hold any. That it is not too wide was asked by reading it.
 fn append_row(out: &mut Vec<u8>, row: &[u32]) -> Result<(), AllocError>
     requires { length row.now ≤ most_words }
     ensures { OnOk result (out.new.items ≡ out.old.items ++ row_bytes row.now) }
@@ -54,6 +55,7 @@ fn append_rows(trace: &Trace, row: &mut [u32], out: &mut Vec<u8>) -> Result<(), 
     ensures { let output = output_from (length row.old) 0 (lines trace.now) in
         OnOk result (out.new.items ≡ out.old.items ++ output) }
 {
+    // a trace has at most 32,768 lines, so `rows` fits a word
     for (rows, line) in Lines::new(trace.bytes).enumerate() {
         match row::read(line, 0, row) {
             Ok(_) => append_row(out, row)?,

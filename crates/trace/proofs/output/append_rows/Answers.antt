@@ -1,14 +1,11 @@
 use Rattle.std.proofs.Common.{◌≡◌, ℕ, suc, List, ◌++◌, length, vec_items, ap, ap₂, ◌∙◌, sym, inl, arith}
 use Rattle.std.proofs.lemmas.List.{append_assoc}
-use Rattle.std.proofs.lemmas.Result.{IfOk-equal}
 use Rattle.text.proofs.Cutting.{length_lines}
 use Rattle.text.specs.Lines.{lines}
 use Rattle.text.specs.Unread.{unread_lines}
 use Rattle.row.specs.Rows.{row_bytes}
-use Rattle.trace.specs.Faults.{refusal_of}
 use Rattle.trace.specs.Output.{output_from}
-use Rattle.trace.specs.declared.faults.Fault.{Fault}
-use Rattle.trace.proofs.Rows.{output_refusal, output_row}
+use Rattle.trace.proofs.Rows.{output_row}
 use Rattle.trace.proofs.output.append_rows.Goals as goal
 
 pub loop-rows-init-derived : goal.loop-rows-init-derived
@@ -39,15 +36,3 @@ loop-rows-preserved c =
           ∙ c.loop-rows.invariant.0,
       omega (arith, steps.2, ap length first, c.loop-rows.invariant.1),
     )
-
-pub returns-in-Err : goal.returns-in-Err
-returns-in-Err c =
-    let rows = c.loop-rows.rows-iterator.count in
-    let row = c.loop-rows.row in
-    let steps = c.in-Some.ensures.steps in
-    let first = steps.0 in
-    let stop = output_refusal rows c.in-Some.line.now row c.read.new.row (unread_lines c.next.new.self.iter) c.in-Err.fault c.in-Err.ensures.all in
-    IfOk-equal c.append_refusal.result _ _ _ c.append_refusal.ensures
-    (ap₂ (λ (fault : Fault) (n : ℕ). vec_items c.loop-rows.out ++ refusal_of fault n) c.from.ensures steps.1
-    ∙ ap (λ (xs : List ℕ). vec_items c.loop-rows.out ++ xs) (sym (ap (output_from (length row) rows) first ∙ stop))
-    ∙ c.loop-rows.invariant.0)
