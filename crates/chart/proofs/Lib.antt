@@ -1,2 +1,1 @@
 pub mod LetterOf
-pub mod Operands

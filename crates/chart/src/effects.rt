@@ -16,6 +16,7 @@ pub enum How {
     Relative,
 }
 
+// One letter each: the letters are all that differs from the other kinds of one letter.
 impl FieldForm for How {
     ghost form = { how_in };
 

@@ -25,6 +25,7 @@ pub enum Operator {
     Smaller,
 }
 
+// Operators are numbers in the file, and this is where they stop being numbers.
 impl FieldForm for Operator {
     ghost form = { operator_in };
 

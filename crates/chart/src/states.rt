@@ -14,6 +14,7 @@ pub enum Kind {
     Final,
 }
 
+// One letter each: the letters are all that differs from the other kinds of one letter.
 impl FieldForm for Kind {
     ghost form = { kind_in };
 

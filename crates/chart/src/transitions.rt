@@ -18,6 +18,7 @@ pub enum When {
     Termination,
 }
 
+// One letter each: the letters are all that differs from the other kinds of one letter.
 impl FieldForm for When {
     ghost form = { when_in };
 

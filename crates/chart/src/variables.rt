@@ -14,6 +14,7 @@ pub enum Use {
     Local,
 }
 
+// One letter each: the letters are all that differs from the other kinds of one letter.
 impl FieldForm for Use {
     ghost form = { use_in };
 

@@ -1,6 +1,6 @@
 -- One line more of a line file: the steps of the loop that reads one.
 use Rattle.std.proofs.Common.{◌≡◌, ℕ, ◌+◌, List, [], ◌∷◌, ◌++◌, length, Some, None, Ok, Err, Option, Result, sym, refl, ap, ◌∙◌, subst, arith}
-use Rattle.std.proofs.lemmas.List.{append_assoc, append-nil, length_push}
+use Rattle.std.proofs.lemmas.List.{append_assoc, length_push}
 use Rattle.linefile.proofs.Letters.{Agrees, agrees_more, agrees_none, line_passes, line_same}
 use Rattle.linefile.specs.Files.{in_front, lettered, read_line, read_lines}
 use Rattle.linefile.specs.Formats.{Format}
@@ -36,9 +36,6 @@ module _ {L : Type 0} (format : Format L) where
         ∙ sym (behind_front read l (read_lines format (letter ∷ earlier) rest))
         ∙ ap (behind read) (sym (lines_on earlier line rest letter l e))
 
-    pub read_stop : (fault : LineFault) → read_line format earlier (bare line) ≡ Err fault → Err fault ≡ behind read (read_lines format earlier (line ∷ rest))
-    read_stop fault e = ap (behind read) (sym (lines_off earlier line rest fault e))
-
 -- What is held between two lines: the lines so far and those that are left are all, and the last line agrees with those so far.
 pub record Held {L : Type 0} (format : Format L) (text : List ℕ) (left : List (List ℕ)) (read : List L) (last : Option (ℕ × ℕ)) : Type 0 where
   pub earlier : List ℕ
@@ -66,9 +63,3 @@ module _ {L : Type 0} (format : Format L) (text : List ℕ) where
           agrees = subst (λ (k : ℕ). Agrees (letter ∷ h.earlier) (Some (letter, k))) (sym c) (agrees_more h.earlier last letter h.agrees passes.comes);
           all = read_more format h.earlier line rest read letter l after (sym same ∙ sym e) p ∙ ap (λ (ls : List (List ℕ)). behind read (read_lines format h.earlier ls)) (sym next) ∙ h.all;
         }
-
-    pub held_stop : (fault : LineFault) → Err fault ≡ told → Err fault ≡ read_lines format [] (lines text)
-    held_stop fault e = read_stop format h.earlier line rest read fault (sym same ∙ sym e) ∙ ap (λ (ls : List (List ℕ)). behind read (read_lines format h.earlier ls)) (sym next) ∙ h.all
-
-  pub held_all : (left : List (List ℕ)) (read : List L) (last : Option (ℕ × ℕ)) → Held format text left read last → left ≡ [] → Ok read ≡ read_lines format [] (lines text)
-  held_all left read last h none = ap Ok (sym (append-nil read)) ∙ ap (λ (ls : List (List ℕ)). behind read (read_lines format h.earlier ls)) (sym none) ∙ h.all

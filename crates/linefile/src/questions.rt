@@ -35,7 +35,7 @@ pub fn count_yes<L, F: Fn(usize, &L) -> bool>(lines: &[L], holds: F) -> usize
         → result ≡ count_yes says lines.now }
     ensures bound { result ≤ length lines.now }
 {
-    // a loop, since the library says of `enumerate` only what it gives at each place
+    // a loop: a chain proves too, but with an answer, and then a wrong count is found only there
     let mut count = 0;
     for (number, line) in lines.iter().enumerate() {
         if holds(number, line) {

@@ -15,7 +15,7 @@ use std::alloc::Global;
 use std::cmp::Ordering;
 use text::{COMMA, Fields, Lines, NEWLINE};
 
-/// The bytes of the longest line file.
+/// The bytes of the longest line file. A trace has a limit of its own, which is the same number.
 pub const MOST_BYTES: usize = 32768;
 
 /// A line of a kind of line file.
@@ -68,17 +68,24 @@ fn letter_of<L: FileLine>(line: &[u8]) -> Option<L::Letter>
     }
 }
 
-// How many lines of a letter were read, by the letter of the last line and how many have that one:
-// nothing where the letter may not come any more.
-fn count_so_far<L: FileLine>(last: Option<(L::Letter, u32)>, letter: L::Letter) -> Option<u32>
+// The letter of the last line, and how many lines have it so far.
+#[derive(Clone, Copy)]
+struct Last<K> {
+    letter: K,
+    count: u32,
+}
+
+// How many lines of a letter were read, by what the last line tells: nothing where the letter may
+// not come any more.
+fn count_so_far<L: FileLine>(last: Option<Last<L::Letter>>, letter: L::Letter) -> Option<u32>
     ensures { result ≡ cond (comes (placed_last L.place last) (L.place letter)) (Some (so_far (placed_last L.place last) (L.place letter))) None }
 {
-    let Some((last_letter, count)) = last else {
+    let Some(last) = last else {
         return Some(0);
     };
-    match letter.cmp(&last_letter) {
+    match letter.cmp(&last.letter) {
         Ordering::Less => None,
-        Ordering::Equal => Some(count),
+        Ordering::Equal => Some(last.count),
         Ordering::Greater => Some(0),
     }
 }
@@ -87,10 +94,10 @@ fn count_so_far<L: FileLine>(last: Option<(L::Letter, u32)>, letter: L::Letter) 
 fn read_line<L: FileLine + Drop>(
     line: &[u8],
     place: u32,
-    last: Option<(L::Letter, u32)>,
-) -> Result<((L::Letter, u32), L), LineFault>
+    last: Option<Last<L::Letter>>,
+) -> Result<(Last<L::Letter>, L), LineFault>
     ensures line { placed L.place result ≡ lettered L.format (comes (placed_last L.place last)) (so_far (placed_last L.place last)) place line.now }
-    ensures count { IfOk result (λ found. found.0.1 ≡ so_far (placed_last L.place last) (L.place found.0.0) + 1) }
+    ensures count { IfOk result (λ found. found.0.count ≡ so_far (placed_last L.place last) (L.place found.0.letter) + 1) }
 {
     let letter = letter_of::<L>(line).ok_or(LineFault::Letter(place))?;
     let count = count_so_far::<L>(last, letter).ok_or(LineFault::Letter(place))?;
@@ -101,7 +108,8 @@ fn read_line<L: FileLine + Drop>(
     if number >= L::limit(letter) {
         return Err(LineFault::Limit(place));
     }
-    Ok(((letter, number + 1), said))
+    let count = number + 1;
+    Ok((Last { letter, count }, said))
 }
 
 // The lines of a file that is not too long, each in turn.
@@ -112,9 +120,10 @@ fn read_each<L: FileLine + Drop>(heap: Global, text: &[u8]) -> Result<Vec<L>, Fi
     let mut read = Vec::new(heap);
     let mut last = None;
     for line in Lines::new(text) {
-        let (letter, said) = read_line(bare(line), read.len() as u32, last)?;
+        // the place fits a word, as a file has at most 32,768 lines
+        let (now, said) = read_line(bare(line), read.len() as u32, last)?;
         read.push(said)?;
-        last = Some(letter);
+        last = Some(now);
     }
     Ok(read)
 }

@@ -8,15 +8,17 @@ ghost use Rattle.structure.specs.Verdicts.{Makes, first_line, refused_at};
 use faults::ChartFault;
 use linefile::first_no;
 
-// The line of that number, if there is one. Numbers of lines are words; `as usize` brings them here,
-// since `usize::try_from` would have an error that cannot come.
+// The line of that number, if there is one. Numbers of lines are words; `as usize` brings them
+// here, since `usize::try_from` would have an error that cannot come.
 pub(crate) fn named<L: Copy>(lines: &[L], number: usize) -> Option<L>
     ensures { result ≡ slice_get lines.now number }
 {
     lines.get(number).copied()
 }
 
-// Asks each line, where so many lines of the file stand before them: the first no is refused.
+// Asks each line, where so many lines of the file stand before them: the first no is refused. The
+// list and the count stay two parameters: a pair would be made for each call. Numbers of lines fit
+// a word, so `as u32` loses nothing.
 pub(crate) fn ask<L, F: Fn(usize, &L) -> bool, R: FnOnce(u32) -> ChartFault>(
     lines: &[L],
     before: usize,

@@ -10,7 +10,8 @@ use faults::ChartFault;
 use linefile::read_lines;
 use std::alloc::Global;
 
-// The lines of a file that gets yes to all questions.
+// The lines of a file that gets yes to all questions. `heap`, `text` and `joinings` are what the
+// public call is handed; it is thin over two steps, so that each is proved alone.
 fn read_chart(heap: Global, text: &[u8], joinings: u32) -> Result<Lines, ChartFault>
     ensures { Asked result (verdict joinings text.now) }
 {

@@ -46,6 +46,7 @@ pub(crate) fn ask_rings(heap: Global, lines: &Lines) -> Result<(), ChartFault>
     match rank(heap, &RegionGraph { lines }) {
         Ok(_) => Ok(()),
         Err(Unranked::Loop(region)) => {
+            // a chart has at most 416 lines, so the number fits a word
             Err(ChartFault::Ring((lines.before_regions() + region) as u32))
         }
         Err(Unranked::Memory(short)) => Err(short.into()),

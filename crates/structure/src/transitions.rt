@@ -13,10 +13,9 @@ fn stays(lines: &Lines, transition: &Transition) -> bool
 {
     let source = named(&lines.states, transition.source as usize);
     let target = named(&lines.states, transition.target as usize);
-    match (source, target) {
-        (Some(source), Some(target)) => source.region == target.region,
-        _ => false,
-    }
+    source
+        .zip(target)
+        .is_some_and(|(source, target)| source.region == target.region)
 }
 
 pub(crate) fn ask_crossing(lines: &Lines) -> Result<(), ChartFault>
