@@ -7,6 +7,7 @@ use std::io::Write;
 
 const CHART: &str = "chart.txt";
 
+// Each program names its files and tests its own limit: a program calls no other.
 const TRACE: &str = "trace.txt";
 
 fn main(rt: HostRuntime) -> io::Result<()> {

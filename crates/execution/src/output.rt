@@ -2,6 +2,7 @@
 ghost use Rattle.std.specs.Prelude.{◌≡◌, ◌⊎◌, IfOk, Err, MatchResult, alloc_error};
 ghost use Rattle.std.specs.Option.{option_copied};
 ghost use Rattle.faults.specs.declared.charts.ChartFault.TheVariants.{Memory};
+ghost use Rattle.structure.specs.Verdicts.{Asked};
 ghost use Rattle.execution.specs.Output.{OutputEchoes, output, shipped_verdict, width_of};
 ghost use Rattle.execution.specs.Stops.{Tells};
 
@@ -12,13 +13,13 @@ use std::alloc::{AllocError, Global};
 use structure::Lines;
 use trace::{Trace, execute_rows, refuse};
 
-/// The bytes of the longest trace, which are as many as those of the longest chart.
+/// The bytes of the longest trace, which are as many as those of the longest chart: two rules with
+/// one number.
 pub const MOST_BYTES: usize = linefile::MOST_BYTES;
 
 // How many words each row of a trace has: one for each input of the chart.
 fn chart_width(heap: Global, chart: &[u8]) -> Result<usize, ChartFault>
-    ensures { (result ≡ Err (Memory alloc_error))
-        ⊎ (result ≡ width_of (shipped_verdict chart.now)) }
+    ensures { Asked result (width_of (shipped_verdict chart.now)) }
 {
     let mut lines = Lines::new(heap);
     lines.read(heap, chart, joining::shipped().count())?;
