@@ -6,6 +6,7 @@ use std::alloc::Global;
 use std::process::Abort;
 use std::test::Fail;
 
+// Of a test's own graph: what joining has of this name is private to it.
 fn is_next(node: usize, other: usize) -> bool
     ensures { result ≡ (other == node + 1) }
 {

@@ -1,4 +1,4 @@
-//! The rules on examples.
+//! The rules of traces on examples. Tests of the same names in `chart_cases` are of its `execute`.
 use row::RowFault;
 use std::test::Fail;
 use trace::*;
@@ -74,6 +74,25 @@ fn a_row_of_65_words_is_too_wide(rt: HostRuntime) -> Result<(), Fail> {
     trace.extend_from_slice(b"7\n")?;
     let output = execute(rt.alloc(), Some(&trace))?;
     assert_eq!(rt; output.as_slice(), b"refused,3,15,0,0\n".as_slice());
+    Ok(())
+}
+
+#[test]
+fn a_width_may_be_another_than_the_first_row_has(rt: HostRuntime) -> Result<(), Fail> {
+    let trace = Trace::new(Some(b"0,2\n1\n")).ok().ok_or("no trace")?;
+    assert_eq!(rt; trace.width(), 2);
+    let output = execute_rows(rt.alloc(), 2, &trace)?;
+    assert_eq!(rt; output.as_slice(), b"0,2\nrefused,3,17,1,1\n".as_slice());
+    let output = execute_rows(rt.alloc(), 1, &trace)?;
+    assert_eq!(rt; output.as_slice(), b"refused,3,17,2,0\n".as_slice());
+    Ok(())
+}
+
+#[test]
+fn a_fault_ends_an_output_before_any_row(rt: HostRuntime) -> Result<(), Fail> {
+    let output = refuse(rt.alloc(), RowFault::NoNumber(4))?;
+    assert_eq!(rt; output.as_slice(), b"refused,3,18,4,0\n".as_slice());
+    assert!(rt; Trace::new(None).is_err());
     Ok(())
 }
 

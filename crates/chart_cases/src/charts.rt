@@ -25,13 +25,13 @@ fn an_accepted_read_leaves_the_lines_of_the_file(rt: HostRuntime) {
     assert_eq!(rt; lines.transitions.len(), 1);
     assert_eq!(rt; lines.effects.len(), 0);
     for state in lines.states.iter().skip(1) {
-        assert!(rt; matches!(state.kind, Kind::Final) && state.region == 0);
+        assert!(rt; state.kind == Kind::Final && state.region == 0);
     }
     for transition in &lines.transitions {
         let trigger = transition.trigger;
-        assert!(rt; matches!(trigger.operator, Operator::Smaller));
-        assert!(rt; matches!(trigger.left, Operand::Constant(4)));
-        assert!(rt; matches!(trigger.right, Operand::Variable(0)));
+        assert_eq!(rt; trigger.operator, Operator::Smaller);
+        assert_eq!(rt; trigger.left, Operand::Constant(4));
+        assert_eq!(rt; trigger.right, Operand::Variable(0));
     }
 }
 
