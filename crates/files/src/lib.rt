@@ -1,7 +1,7 @@
 //! Files, read up to a limit.
 #![tactic(auto)]
 
-ghost use Rattle.std.specs.Prelude.{◌≡◌, ◌+◌, ◌≤◌, IfOk, IfSome, take, vec_len};
+ghost use Rattle.std.specs.Prelude.{◌≡◌, ◌+◌, ◌-◌, ◌^◌, ◌≤◌, min, IfOk, IfSome, take, vec_len};
 
 use std::alloc::Global;
 use std::fs::File;
@@ -23,12 +23,21 @@ fn read_front<R: Read + Drop>(heap: Global, reader: R, most: usize) -> io::Resul
     Ok(bytes)
 }
 
+// The bytes that a reader gives, up to one more than `most`.
+fn read_past<R: Read + Drop>(heap: Global, reader: R, most: usize) -> io::Result<Vec<u8>>
+    ensures bound { IfOk result (λ bytes. vec_len bytes ≤ most + 1) }
+    ensures front { IfOk result (λ bytes.
+        IfSome (R.remaining reader) (λ all. bytes.items ≡ take (min (most + 1) (2 ^ 64 - 1)) all)) }
+{
+    read_front(heap, reader, most.saturating_add(1))
+}
+
 /// The bytes of the file at a path, up to one more than `most`. That one tells that the file is
 /// longer, however long it is.
 pub fn read_file(rt: &(impl Files + AllocGlobal), path: &str, most: usize) -> io::Result<Vec<u8>>
     ensures { IfOk result (λ bytes. vec_len bytes ≤ most + 1) }
 {
-    read_front(rt.alloc(), File::open(rt, path)?, most.saturating_add(1))
+    read_past(rt.alloc(), File::open(rt, path)?, most)
 }
 
 #[cfg(test)]
