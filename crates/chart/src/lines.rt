@@ -1,7 +1,7 @@
 //! A line of a chart file, of any letter.
-ghost use Rattle.std.specs.Prelude.{refl};
+ghost use Rattle.std.specs.Prelude.{◌≡◌, ◌≤◌, MatchOption, length, refl};
 ghost use Rattle.chart.specs.declared.lines.Letter.TheVariants.{Variable, Region, State, Transition, Effect};
-ghost use Rattle.chart.specs.ChartFiles.{chart_format, place_of};
+ghost use Rattle.chart.specs.ChartFiles.{chart_format, letters, place_of};
 
 use crate::effects::{Effect, parse_effect};
 use crate::regions::{Region, parse_region};
@@ -31,6 +31,20 @@ pub enum Line {
     Effect(Effect),
 }
 
+// The letter that stands at a place among the letters.
+fn letter_at(place: usize) -> Option<Letter>
+    ensures { MatchOption result (length letters ≤ place) (λ letter. place_of letter ≡ place) }
+{
+    match place {
+        0 => Some(Letter::Variable),
+        1 => Some(Letter::Region),
+        2 => Some(Letter::State),
+        3 => Some(Letter::Transition),
+        4 => Some(Letter::Effect),
+        _ => None,
+    }
+}
+
 impl FileLine for Line {
     type Letter = Letter;
 
@@ -46,6 +60,10 @@ impl FileLine for Line {
       | Effect ↦ elim [ Variable ↦ refl | Region ↦ refl | State ↦ refl | Transition ↦ refl | Effect ↦ refl ]
     ] };
 
+    fn letters() -> &'static [u8] {
+        b"VRSTE"
+    }
+
     fn letter(byte: u8) -> Option<Letter> {
         match byte {
             b'V' => Some(Letter::Variable),
@@ -57,19 +75,30 @@ impl FileLine for Line {
         }
     }
 
-    fn limit(letter: Letter) -> u32 {
+    fn place(letter: Letter) -> usize {
         match letter {
-            Letter::Variable => 64,
-            Letter::Region => 32,
-            Letter::State => 64,
-            Letter::Transition => 128,
-            Letter::Effect => 128,
+            Letter::Variable => 0,
+            Letter::Region => 1,
+            Letter::State => 2,
+            Letter::Transition => 3,
+            Letter::Effect => 4,
+        }
+    }
+
+    fn limit(letter: usize) -> u32 {
+        match letter_at(letter) {
+            Some(Letter::Variable) => 64,
+            Some(Letter::Region) => 32,
+            Some(Letter::State) => 64,
+            Some(Letter::Transition) => 128,
+            Some(Letter::Effect) => 128,
+            None => 0,
         }
     }
 
     // five closures and no call that takes the variant: that call would need a clause about it
-    fn parse(letter: Letter, fields: Fields) -> Option<(u32, Line)> {
-        match letter {
+    fn parse(letter: usize, fields: Fields) -> Option<(u32, Line)> {
+        match letter_at(letter)? {
             Letter::Variable => parse_variable(fields).map(|(number, line)| (
                 number,
                 Line::Variable(line),

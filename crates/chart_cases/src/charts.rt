@@ -1,10 +1,12 @@
 //! The rules of charts on examples. Crate `table` has the verdicts on many more.
-use chart::{Kind, Operand, Operator};
+use chart::{Kind, Letter, Line, Operand, Operator, Region};
 use faults::{ChartFault, FileFault, LineFault};
+use linefile::FileLine;
 use refusal::Refusal;
 use std::alloc::{AllocError, Global};
 use std::process::Abort;
 use structure::Lines;
+use text::Fields;
 
 // A chart that is accepted, with a line of each letter and a second state.
 fn small_chart(rt: &impl Abort, heap: Global) -> Lines {
@@ -59,4 +61,19 @@ fn a_fault_carries_the_one_below(rt: HostRuntime) {
     assert_eq!(rt; (file.number(), file.place()), (1, 0));
     let memory: ChartFault = FileFault::Memory(AllocError).into();
     assert_eq!(rt; (memory.number(), memory.place()), (0, 0));
+}
+
+#[test]
+fn letters_stand_at_their_places(rt: HostRuntime) {
+    assert_eq!(rt; Line::letters(), b"VRSTE".as_slice());
+    assert_eq!(rt; Line::letter(b'S'), Some(Letter::State));
+    assert_eq!(rt; Line::letter(b'M'), None);
+    assert_eq!(rt; Line::place(Letter::State), 2);
+    assert_eq!(rt; Line::limit(1), 32);
+    assert_eq!(rt; Line::limit(5), 0);
+    assert_eq!(rt;
+        Line::parse(1, Fields::new(b"R,0,-", 2)),
+        Some((0, Line::Region(Region { parent: None }),))
+    );
+    assert_eq!(rt; Line::parse(5, Fields::new(b"R,0,-", 2)), None);
 }

@@ -1,11 +1,5 @@
 -- Questions that are asked of each line of a kind with its number, the first no deciding.
 use Rattle.std.specs.Prelude.{◌≡◌, ℕ, suc, ◌+◌, ◌<◌, Bool, true, false, cond, List, [], ◌∷◌, length, Some, None, Option, MatchOption, slice_index_or}
-use Rattle.std.specs.Borrow.{Bor}
-use Rattle.std.specs.Fn.{Shared}
-
--- A closure that is asked of a number and a line answers what a test says.
-abbrev pub AnswersAs : {F L : Type 0} → Shared F (ℕ × (Bor L × Unit {0})) Bool → F → (ℕ → L → Bool) → Type 0
-AnswersAs {F} {L} g holds says = (number : ℕ) (line : Bor L) (answer : Bool) → g.post holds (number, (line, tt)) answer → answer ≡ says number line.now
 
 -- lines whose numbers begin at a number
 abbrev pub first_no_from : {L : Type 0} → ℕ → (ℕ → L → Bool) → List L → Option ℕ

@@ -6,5 +6,5 @@ mod questions;
 mod reading;
 
 pub use forms::{FieldForm, end_fields, only_byte, take_field};
-pub use questions::{count_yes, first_no};
+pub use questions::{Question, count_yes, first_no};
 pub use reading::{FileLine, MOST_BYTES, read_lines};

@@ -28,17 +28,26 @@ pub trait FileLine: Sized {
     // where a letter stands among the letters
     ghost place: { Self.Letter → ℕ };
 
+    /// The letters of the file, in order.
+    fn letters() -> &'static [u8]
+        ensures { result.now ≡ format.letters };
+
     /// The letter that a byte is.
     fn letter(byte: u8) -> Option<Self::Letter>
         ensures { option_map place result ≡ first_from byte format.letters 0 };
 
-    /// How many lines of a letter there may be.
-    fn limit(letter: Self::Letter) -> u32
-        ensures { result ≡ format.limit (place letter) };
+    /// Where a letter stands among the letters.
+    fn place(letter: Self::Letter) -> usize
+        ensures { result ≡ place letter };
 
-    /// What a line of this letter says by the fields behind the letter: its number and the line.
-    fn parse(letter: Self::Letter, fields: Fields) -> Option<(u32, Self)>
-        ensures { result ≡ format.form (place letter) (unread fields.entry) };
+    /// How many lines the letter at a place among the letters may have.
+    fn limit(letter: usize) -> u32
+        ensures { result ≡ format.limit letter };
+
+    /// What a line of the letter at a place says by the fields behind the letter: its number and
+    /// the line.
+    fn parse(letter: usize, fields: Fields) -> Option<(u32, Self)>
+        ensures { result ≡ format.form letter (unread fields.entry) };
 
     // the order of letters is that of their places
     ghost ordered: { (a b : Self.Letter) → Self.Letter.cmp a b ≡ nat_cmp (place a) (place b) };
@@ -101,11 +110,13 @@ fn read_line<L: FileLine + Drop>(
 {
     let letter = letter_of::<L>(line).ok_or(LineFault::Letter(place))?;
     let count = count_so_far::<L>(last, letter).ok_or(LineFault::Letter(place))?;
-    let (number, said) = L::parse(letter, Fields::new(line, 2)).ok_or(LineFault::Fields(place))?;
+    let (number, said) = L::parse(L::place(letter), Fields::new(line, 2)).ok_or(LineFault::Fields(
+        place,
+    ))?;
     if number != count {
         return Err(LineFault::Number(place));
     }
-    if number >= L::limit(letter) {
+    if number >= L::limit(L::place(letter)) {
         return Err(LineFault::Limit(place));
     }
     let count = number + 1;

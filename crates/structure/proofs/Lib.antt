@@ -1,4 +1,5 @@
 pub mod Acceptance
 pub mod Limiting
 pub mod Passing
+pub mod Picking
 pub mod Roots

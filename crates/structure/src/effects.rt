@@ -7,6 +7,7 @@ use crate::lines::Lines;
 use crate::variables::is_input;
 use chart::{Effect, Expression, How, Operand, Variable};
 use faults::ChartFault;
+use linefile::Question;
 
 fn is_operand(variable: u32, operand: Operand) -> bool
     ensures { result ≡ is_operand variable operand }
@@ -38,13 +39,27 @@ fn may_write(lines: &Lines, effect: &Effect) -> bool
     variable.is_some_and(|variable| !is_input(variable.usage) && may_join(effect, variable))
 }
 
+#[derive(Clone, Copy)]
+struct Writing<'a> {
+    lines: &'a Lines,
+}
+
+impl<'a> Question<Effect> for Writing<'a> {
+    ghost yes = { λ question _ effect. may_write question.lines.now effect };
+
+    fn holds(&self, _number: usize, effect: &Effect) -> bool {
+        may_write(self.lines, effect)
+    }
+}
+
 pub(crate) fn ask_writes(lines: &Lines) -> Result<(), ChartFault>
     ensures { result ≡ write_verdict lines.now }
 {
+    let before = lines.before_effects();
     ask(
+        &Writing { lines },
+        before,
         &lines.effects,
-        lines.before_effects(),
-        |_, effect| may_write(lines, effect),
         ChartFault::Write,
     )
 }

@@ -4,7 +4,7 @@ ghost use Rattle.structure.specs.Limits.{most_variables};
 ghost use Rattle.structure.specs.Lists.{Limited, before_effects, before_regions, before_states, before_transitions, no_lines};
 ghost use Rattle.structure.specs.Variables.{input_count};
 
-use crate::variables::is_input;
+use crate::variables::Inputs;
 use chart::{Effect, Region, State, Transition, Variable};
 use linefile::count_yes;
 use std::alloc::Global;
@@ -62,8 +62,9 @@ impl Lines {
     pub fn input_count(&self) -> usize
         ensures value { result ≡ input_count self.now }
         ensures bound { result ≤ most_variables }
+        ensures limited { Limited self.now }
     {
-        count_yes(&self.variables, |_, variable| is_input(variable.usage))
+        count_yes(&Inputs, &self.variables)
     }
 
     // How many lines of the file stand before those of a kind. `limited` tells a caller that reads

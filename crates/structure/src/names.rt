@@ -1,11 +1,14 @@
 //! Question 6: what lines name.
-ghost use Rattle.std.specs.Prelude.{◌≡◌};
-ghost use Rattle.structure.specs.Names.{effect_names, exists, names_verdict, operands_exist, operand_exists, region_names, transition_names};
+ghost use Rattle.std.specs.Prelude.{◌≡◌, ◌+◌, ◌^◌, ◌<◌, length};
+ghost use Rattle.faults.specs.declared.charts.ChartFault.TheVariants.{Names};
+ghost use Rattle.structure.specs.Verdicts.{first_line, refused_at};
+ghost use Rattle.structure.specs.Names.{effect_names, exists, names_verdict, operands_exist, operand_exists, region_names, state_names, transition_names, variable_names};
 
 use crate::asking::ask;
 use crate::lines::Lines;
-use chart::{Effect, Expression, Operand, Region, Transition};
+use chart::{Effect, Expression, Operand, Region, State, Transition, Variable};
 use faults::ChartFault;
+use linefile::Question;
 
 fn exists<L>(lines: &[L], number: u32) -> bool
     ensures { result ≡ exists lines.now number }
@@ -52,37 +55,69 @@ fn effect_names(lines: &Lines, effect: &Effect) -> bool
         && operands_exist(lines, effect.value)
 }
 
+// Does every line that the line names exist, and is a joining at most the last?
+#[derive(Clone, Copy)]
+struct Naming<'a> {
+    lines: &'a Lines,
+    joinings: u32,
+}
+
+impl<'a> Question<Variable> for Naming<'a> {
+    ghost yes = { λ question _ variable. variable_names question.joinings variable };
+
+    fn holds(&self, _number: usize, variable: &Variable) -> bool {
+        variable.joining <= self.joinings
+    }
+}
+
+impl<'a> Question<Region> for Naming<'a> {
+    ghost yes = { λ question _ region. region_names question.lines.now region };
+
+    fn holds(&self, _number: usize, region: &Region) -> bool {
+        region_names(self.lines, region)
+    }
+}
+
+impl<'a> Question<State> for Naming<'a> {
+    ghost yes = { λ question _ state. state_names question.lines.now state };
+
+    fn holds(&self, _number: usize, state: &State) -> bool {
+        let lines = self.lines;
+        exists(&lines.regions, state.region)
+    }
+}
+
+impl<'a> Question<Transition> for Naming<'a> {
+    ghost yes = { λ question _ transition. transition_names question.lines.now transition };
+
+    fn holds(&self, _number: usize, transition: &Transition) -> bool {
+        transition_names(self.lines, transition)
+    }
+}
+
+impl<'a> Question<Effect> for Naming<'a> {
+    ghost yes = { λ question _ effect. effect_names question.lines.now effect };
+
+    fn holds(&self, _number: usize, effect: &Effect) -> bool {
+        effect_names(self.lines, effect)
+    }
+}
+
+// Asks the lines of one kind.
+fn ask_kind<L, Q: Question<L>>(question: &Q, before: usize, lines: &[L]) -> Result<(), ChartFault>
+    requires { before + length lines.now < 2 ^ 32 }
+    ensures { result ≡ refused_at Names (first_line before (Q.Question.yes question.now) lines.now) }
+{
+    ask(question, before, lines, ChartFault::Names)
+}
+
 pub(crate) fn ask_names(lines: &Lines, joinings: u32) -> Result<(), ChartFault>
     ensures { result ≡ names_verdict joinings lines.now }
 {
-    ask(
-        &lines.variables,
-        0,
-        |_, variable| variable.joining <= joinings,
-        ChartFault::Names,
-    )?;
-    ask(
-        &lines.regions,
-        lines.before_regions(),
-        |_, region| region_names(lines, region),
-        ChartFault::Names,
-    )?;
-    ask(
-        &lines.states,
-        lines.before_states(),
-        |_, state| exists(&lines.regions, state.region),
-        ChartFault::Names,
-    )?;
-    ask(
-        &lines.transitions,
-        lines.before_transitions(),
-        |_, transition| transition_names(lines, transition),
-        ChartFault::Names,
-    )?;
-    ask(
-        &lines.effects,
-        lines.before_effects(),
-        |_, effect| effect_names(lines, effect),
-        ChartFault::Names,
-    )
+    let question = Naming { lines, joinings };
+    ask_kind(&question, 0, &lines.variables)?;
+    ask_kind(&question, lines.before_regions(), &lines.regions)?;
+    ask_kind(&question, lines.before_states(), &lines.states)?;
+    ask_kind(&question, lines.before_transitions(), &lines.transitions)?;
+    ask_kind(&question, lines.before_effects(), &lines.effects)
 }

@@ -18,8 +18,14 @@ fn pick_all<T: Drop, F: Fn(&Line) -> Option<T>>(
     ensures { (picks : Line → Option T) → Picks F.Fn pick picks
         → IfOk result (λ all. all.items ≡ filter_map picks lines.now) }
 {
-    // called from a closure: `filter_map(pick)` would ask that any value of `F` may be called
-    lines.iter().filter_map(|line| pick(line)).collect(heap)
+    // a loop: a chain of `filter_map` and `collect` takes half as long again
+    let mut all = Vec::new(heap);
+    for line in lines {
+        if let Some(held) = pick(line) {
+            all.push(held)?;
+        }
+    }
+    Ok(all)
 }
 
 // The lines of a file that keeps the limits.

@@ -2,4 +2,4 @@ use Rattle.linefile.proofs.Asking.{decided_is}
 use Rattle.linefile.proofs.questions.first_no.Goals as goal
 
 pub returns-clause-value : goal.returns-clause-value
-returns-clause-value g c = λ says asked. decided_is says c.args.lines.now _ (c.position_of_no.ensures.first says asked)
+returns-clause-value g c = decided_is (g.Q.Question.yes c.args.question.now) c.args.lines.now _ c.position_of_no.ensures.first
