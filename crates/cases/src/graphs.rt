@@ -61,3 +61,11 @@ fn ranks_rise_or_the_lowest_node_on_a_ring_is_told(rt: HostRuntime) -> Result<()
     assert_eq!(rt; lowest(&rt, heap, 512, 511)?, Some(511));
     Ok(())
 }
+
+#[test]
+fn a_graph_that_no_memory_holds_is_told_at_once(rt: HostRuntime) {
+    // a row alone would be 8 GiB, and the square of the count is no `usize`
+    let size = 1 << 33;
+    let answer = rank(rt.alloc(), &Chain { size, back: size });
+    assert!(rt; matches!(answer, Err(Unranked::Memory(_))));
+}

@@ -59,8 +59,8 @@ module _ (rows before after : List (List Bool)) (through : List Bool) (node : �
 
 -- one pass after another
 module _ (n : ℕ) (follows : ℕ → ℕ → Bool) where
-  pub none_passed : square n follows ≡ square n (via n follows 0)
-  none_passed = square_same n follows (via n follows 0) (λ a b h i. sym (below_all a n (ltb b n && follows a b) h ∙ below_all b n (follows a b) i))
+  pub none_passed : (rows : List (List Bool)) → rows ≡ square n follows → rows ≡ square n (via n follows 0)
+  none_passed rows e = e ∙ square_same n follows (via n follows 0) (λ a b h i. sym (below_all a n (ltb b n && follows a b) h ∙ below_all b n (follows a b) i))
 
   pub one_more_passed : (k : ℕ) → k < n → (rows passed after : List (List Bool)) → rows ≡ square n (via n follows k) → passed ≡ square (length rows) (by_way_of k (cell rows)) → after ≡ passed → after ≡ square n (via n follows (k + 1))
   one_more_passed k l rows passed after e p same =

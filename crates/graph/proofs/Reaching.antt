@@ -1,6 +1,6 @@
 -- The test `reaches` answers what the relation `Reach` says.
-use Rattle.std.proofs.Common.{◌≡◌, ℕ, zero, suc, ◌<◌, Bool, true, ◌&&◌, ◌⊎◌, ltb, subst, inl, inr, arith}
-use Rattle.std.proofs.lemmas.Bool.{and_from, and_parts, cases_lt, lt-ltb, ltb-true, or_cases, or_left, or_right}
+use Rattle.std.proofs.Common.{◌≡◌, ℕ, zero, suc, ◌<◌, Bool, true, ◌&&◌, ◌⊎◌, ltb, ap, subst, inl, inr, arith}
+use Rattle.std.proofs.lemmas.Bool.{and_from, and_parts, cases_lt, le-ltb, lt-ltb, ltb-true, or_cases, or_left, or_right}
 use Rattle.graph.specs.Graphs.{Follower, Reach, more, one, reaches, via}
 
 module _ (n : ℕ) (follows : ℕ → ℕ → Bool) where
@@ -78,3 +78,14 @@ module _ (n : ℕ) (follows : ℕ → ℕ → Bool) where
   pub reach_node : {a b : ℕ} → Reach n follows a b → a < n
   reach_node (one f) = f.from
   reach_node (more f r) = f.from
+
+-- graphs that tell the same of their nodes reach the same
+pub via_same : (n : ℕ) (f g : ℕ → ℕ → Bool) → ((a b : ℕ) → a < n → b < n → f a b ≡ g a b) → (k a b : ℕ) → via n f k a b ≡ via n g k a b
+via_same n f g same zero a b = elim (cases_lt a n) [
+  | inl h ↦ elim (cases_lt b n) [
+    | inl i ↦ ap (λ (x : Bool). ltb a n && (ltb b n && x)) (same a b h i)
+    | inr i ↦ rw (le-ltb b n i)
+  ]
+  | inr h ↦ rw (le-ltb a n h)
+]
+via_same n f g same (suc k) a b = rw (via_same n f g same k a b, via_same n f g same k a k, via_same n f g same k k b)

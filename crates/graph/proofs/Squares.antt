@@ -1,6 +1,7 @@
 -- Rows and tables whose cells say what a test does.
-use Rattle.std.proofs.Common.{◌≡◌, ℕ, ◌<◌, Bool, false, List, [], length, get_or, sym, ap, ◌∙◌, subst, arith}
-use Rattle.std.proofs.lemmas.List.FromFn.{fill_by_all, get_or-map-range_with_len, length-map-range_with_len}
+use Rattle.std.proofs.Common.{◌≡◌, ℕ, ◌+◌, ◌<◌, Bool, false, List, [], ◌∷◌, ◌++◌, length, get_or, map, sym, ap, ◌∙◌, subst, arith}
+use Rattle.std.proofs.lemmas.List.FromFn.{fill_by_all, get_or-map-range_with_len, length-map-range_with_len, map-range_with_len_more}
+use Rattle.std.specs.List.{range_with_len}
 use Rattle.graph.specs.Tables.{IsSquare, cell, marked, row_of, square}
 
 module _ (n : ℕ) (test : ℕ → Bool) where
@@ -42,3 +43,11 @@ square_same n test other same =
     is_square n other (square n test) (length-square n test) (λ a h.
     get_or-square n test a [] h
     ∙ is_row_of n (other a) (row_of n (test a)) (length-row_of n (test a)) (λ b i. marked-row_of n (test a) b i ∙ same a b h i))
+
+-- one row more
+pub rows_more : (n : ℕ) (test : ℕ → ℕ → Bool) (k : ℕ) (rows pushed : List (List Bool)) (row : List Bool) → rows ≡ map (λ a. row_of n (test a)) (range_with_len 0 k) → row ≡ row_of n (test k) → pushed ≡ rows ++ row ∷ [] → pushed ≡ map (λ a. row_of n (test a)) (range_with_len 0 (k + 1))
+rows_more n test k rows pushed row so_far is e =
+    e
+    ∙ ap (λ (l : List (List Bool)). l ++ row ∷ []) so_far
+    ∙ ap (λ (r : List Bool). map (λ a. row_of n (test a)) (range_with_len 0 k) ++ r ∷ []) is
+    ∙ sym (map-range_with_len_more (λ a. row_of n (test a)) 0 k k (omega arith))

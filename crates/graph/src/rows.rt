@@ -24,13 +24,19 @@ impl Model for Row {
 }
 
 impl Row {
-    // Marks what follows a node.
-    pub(crate) fn of<G: Graph>(heap: Global, graph: &G, node: usize) -> Result<Row, AllocError>
-        ensures { IfOk result (λ row. row ≡ row_of (G.nodes graph.now) (G.follows graph.now node)) }
+    // Marks what follows a node, in a graph of so many nodes.
+    pub(crate) fn of<G: Graph>(
+        heap: Global,
+        graph: &G,
+        size: usize,
+        node: usize,
+    ) -> Result<Row, AllocError>
+        ensures { IfOk result (λ row. row ≡ row_of size (G.follows graph.now node)) }
     {
-        let cells = (0..graph.node_count())
-            .map(|other| graph.is_follower(node, other))
-            .collect(heap)?;
+        let mut cells = vec![in heap; false; size]?;
+        for (other, cell) in cells.iter_mut().enumerate() {
+            *cell = graph.is_follower(node, other);
+        }
         Ok(Row { cells })
     }
 
@@ -47,9 +53,11 @@ impl Row {
         ensures { self.new
             ≡ row_of (length self.old) (λ b. marked self.old b || marked other.now b) }
     {
+        // a slice, since each write of a cell would have `other.cells` read anew
+        let marks = other.cells.as_slice();
         // by number, since after a zip over `iter_mut` nothing is known of the cells
         for (node, cell) in self.cells.iter_mut().enumerate() {
-            *cell |= other.is_marked(node);
+            *cell |= marks[node];
         }
     }
 

@@ -27,6 +27,23 @@ impl Model for Table {
     ghost invariant = { λ table. IsSquare table.rows.items };
 }
 
+// Is there memory for so many cells? It is given back at once.
+fn has_room(heap: Global, cells: usize) -> Result<(), AllocError> {
+    let _room: Vec<bool> = Vec::with_capacity(heap, cells)?;
+    Ok(())
+}
+
+// A row for each node, of what follows it.
+fn follower_rows<G: Graph>(heap: Global, graph: &G, size: usize) -> Result<Vec<Row>, AllocError>
+    ensures { IfOk result (λ rows. rows.items ≡ square size (G.follows graph.now)) }
+{
+    let mut rows = Vec::with_capacity(heap, size)?;
+    for node in 0..size {
+        rows.push(Row::of(heap, graph, size, node)?)?;
+    }
+    Ok(rows)
+}
+
 impl Table {
     // From what follows what to what reaches what.
     pub(crate) fn of<G: Graph>(heap: Global, graph: &G) -> Result<Table, AllocError>
@@ -34,9 +51,10 @@ impl Table {
             table ≡ square n (reaches n (G.follows graph.now))) }
     {
         let size = graph.node_count();
-        let mut rows: Vec<Row> = (0..size)
-            .map(|node| Row::of(heap, graph, node))
-            .try_collect(heap)?;
+        // Room for all rows is asked for before anything is asked of the graph, so where there is
+        // none that is told at once. Where the square is no `usize`, no memory could hold it.
+        has_room(heap, size.saturating_mul(size))?;
+        let mut rows = follower_rows(heap, graph, size)?;
         // one node after another, as each pass reads what the passes before it wrote
         for node in 0..size {
             pass(&mut rows, node);

@@ -1,16 +1,15 @@
-use Rattle.std.proofs.Common.{◌∙◌, arith, rules}
-use Rattle.std.proofs.iter.runs.Sources.{ranges}
+use Rattle.std.proofs.Common.{arith, rules}
 use Rattle.std.proofs.lemmas.List.{places}
 use Rattle.graph.specs.Graphs.{via}
 use Rattle.graph.proofs.Passes.{none_passed, one_more_passed}
-use Rattle.graph.proofs.Squares.{even_of, is_square, length_of}
+use Rattle.graph.proofs.Squares.{even_of, length_of}
 use Rattle.graph.proofs.tables.Table.of.Goals as goal
 
 pub loop-node-init : goal.loop-node-init
 loop-node-init g c =
     let n = g.G.Graph.nodes c.args.graph.now in
     let follows = g.G.Graph.follows c.args.graph.now in
-    is_square n follows c.in_ok-rows.rows.items (search (rules, ranges)) (λ a h. search (rules, ranges)) ∙ none_passed n follows
+    none_passed n follows c.in_ok-rows.rows.items (search rules)
 
 pub pass-requires-clause-node : goal.pass-requires-clause-node
 pass-requires-clause-node g c =
