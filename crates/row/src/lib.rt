@@ -10,5 +10,6 @@ mod writing;
 pub use faults::RowFault;
 pub use limits::{MOST_BYTES, MOST_WORDS};
 pub use reading::{read, width};
+pub use refusal::Refusal;
 pub use text::NEWLINE;
 pub use writing::write;

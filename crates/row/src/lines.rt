@@ -1,8 +1,9 @@
 //! The line of a row.
-ghost use Rattle.std.specs.Prelude.{◌≡◌, ◌+◌, ◌<◌, ◌≤◌, length, IfSome, Some, None, MatchOption};
+ghost use Rattle.std.specs.Prelude.{◌≡◌, ◌+◌, ◌<◌, ◌≤◌, length, take, IfSome, Some, None, MatchOption};
 ghost use Rattle.text.specs.Fields.{fields};
 ghost use Rattle.row.specs.Reading.{field_words, fields_due, line_at, line_length, line_words, words_or};
-ghost use Rattle.row.specs.Rows.{most_bytes};
+ghost use Rattle.row.specs.Rows.{most_bytes, newline};
+ghost use Rattle.text.specs.Parts.{position};
 
 use crate::faults::RowFault;
 use crate::limits::MOST_BYTES;
@@ -27,15 +28,24 @@ impl<'a> Model for Line<'a> {
     ghost invariant = { λ line. length line.bytes.now < most_bytes };
 }
 
-// How many bytes stand before the first byte 10 among the next 704.
+// How many bytes of a text stand before the first byte 10 among the first 704.
+fn length_ahead(text: &[u8]) -> Option<usize>
+    ensures value { result ≡ position newline (take most_bytes text.now) }
+    ensures within { IfSome result (λ len. (len < most_bytes) × (len < length text.now)) }
+{
+    text.iter()
+        .take(MOST_BYTES)
+        .position(|byte| *byte == NEWLINE)
+}
+
+// How many bytes stand before the first byte 10 among the next 704. The bytes before the place are
+// cut off, as `skip` would go over them one by one.
+#[tactic(auto, using(crate::proofs::Places::none_past))]
 fn line_length(text: &[u8], place: usize) -> Option<usize>
     ensures value { result ≡ line_length text.now place }
     ensures within { IfSome result (λ len. (len < most_bytes) × (place + len < length text.now)) }
 {
-    text.iter()
-        .skip(place)
-        .take(MOST_BYTES)
-        .position(|byte| *byte == NEWLINE)
+    length_ahead(text.get(place..)?)
 }
 
 impl<'a> Line<'a> {

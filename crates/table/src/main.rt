@@ -42,11 +42,16 @@ fn parse_case(line: &[u8]) -> Option<Case> {
     })
 }
 
-// What is printed for a case.
-fn run_case(heap: Global, case: Case) -> Result<Vec<u8>, AllocError> {
+// The output for a case. What it is made of is let go with it, before the case is shown.
+fn execute_case(heap: Global, case: Case) -> Result<Vec<u8>, AllocError> {
     let chart = with_byte(heap, case.chart, SHOWN, NEWLINE)?;
     let trace = with_byte(heap, case.trace, SHOWN, NEWLINE)?;
-    let output = execution::execute(heap, Some(&chart), Some(&trace))?;
+    execution::execute(heap, Some(&chart), Some(&trace))
+}
+
+// What is printed for a case.
+fn run_case(heap: Global, case: Case) -> Result<Vec<u8>, AllocError> {
+    let output = execute_case(heap, case)?;
     let mut shown = case.name.to_vec(heap)?;
     shown.extend_from_slice(b": ")?;
     shown.extend_from_slice(&with_byte(heap, &output, NEWLINE, SHOWN)?)?;

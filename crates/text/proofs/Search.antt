@@ -61,6 +61,23 @@ position_found byte (b ∷ bs) n e = elim (found byte b bs n e) [
   | later m t p z ↦ let h = position_found byte bs m p in (omega (arith, h.0), rw z (ap (λ (ys : List ℕ). b ∷ ys) h.1))
 ]
 
+-- in the front of a list: where it stands before the cut, and not where it stands behind
+pub position_within : (byte : ℕ) (xs : List ℕ) (n k : ℕ) → position byte xs ≡ Some n → n < k → position byte (take k xs) ≡ Some n
+position_within byte xs n zero e h = absurd (omega arith)
+position_within byte [] n (suc k) e h = e
+position_within byte (b ∷ bs) n (suc k) e h = elim (found byte b bs n e) [
+  | here t z ↦ position_at byte b (take k bs) t ∙ ap Some (sym z)
+  | later m t p z ↦ position_past byte b (take k bs) t ∙ ap (option_map suc) (position_within byte bs m k p (omega arith)) ∙ ap Some (sym z)
+]
+
+pub position_beyond : (byte : ℕ) (xs : List ℕ) (n k : ℕ) → position byte xs ≡ Some n → k ≤ n → position byte (take k xs) ≡ None
+position_beyond byte xs n zero e h = refl
+position_beyond byte [] n (suc k) e h = refl
+position_beyond byte (b ∷ bs) n (suc k) e h = elim (found byte b bs n e) [
+  | here t z ↦ absurd (omega arith)
+  | later m t p z ↦ position_past byte b (take k bs) t ∙ ap (option_map suc) (position_beyond byte bs m k p (omega arith))
+]
+
 -- where it stands in the front of a list, it stands in the list
 pub position_back : (byte : ℕ) (xs : List ℕ) (n k : ℕ) → position byte (take k xs) ≡ Some n → position byte xs ≡ Some n
 position_back byte xs n zero e = let z : ◌≡◌ {A = ℕ} 0 1 = cc in absurd (omega arith)

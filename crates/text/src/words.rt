@@ -56,11 +56,38 @@ fn put_bytes(bytes: &[u8], text: &mut [u8], place: usize) -> Option<usize>
     Some(end)
 }
 
+// One byte written at a place, if it has room there.
+#[tactic(auto, using(crate::proofs::Overwriting::overwritten_one))]
+fn put_byte(byte: u8, text: &mut [u8], place: usize) -> Option<usize>
+    ensures { (result, text.new) ≡ put (byte ∷ []) text.old place }
+{
+    if place >= text.len() {
+        return None;
+    }
+    text[place] = byte;
+    Some(place + 1)
+}
+
+// Words of one digit or two, the commonest, are spelled by hand: to have `itoa` spell them, and to
+// copy as many bytes as it answers, takes up to three times as long.
+#[tactic(auto, using(crate::proofs::Decimals::one_digit, crate::proofs::Decimals::two_digits))]
+fn put_word(word: u32, text: &mut [u8], place: usize) -> Option<usize>
+    ensures { (result, text.new) ≡ put (decimal word) text.old place }
+{
+    match word {
+        0..=9 => put_byte(b'0' + word as u8, text, place),
+        10..=99 => {
+            let digits = [b'0' + (word / 10) as u8, b'0' + (word % 10) as u8];
+            put_bytes(&digits, text, place)
+        }
+        _ => put_bytes(Buffer::new().format(word).as_bytes(), text, place),
+    }
+}
+
 /// Writes the word's digits at a place: the place after them, or nothing where they do not fit.
 pub fn write_word(word: u32, text: &mut [u8], place: usize) -> Option<usize>
     ensures all { (result, text.new) ≡ put (decimal word) text.old place }
     ensures digits { Spells (decimal word) word }
 {
-    let mut digits = Buffer::new();
-    put_bytes(digits.format(word).as_bytes(), text, place)
+    put_word(word, text, place)
 }

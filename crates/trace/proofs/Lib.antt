@@ -1,3 +1,4 @@
 pub mod Echo
-mod Rows
+pub mod FirstLines
+pub mod Steps
 mod Writing

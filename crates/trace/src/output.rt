@@ -5,12 +5,12 @@ ghost use Rattle.text.specs.Lines.{lines};
 ghost use Rattle.row.specs.Rows.{most_bytes, most_words, row_bytes};
 ghost use Rattle.trace.specs.Output.{Echoed, output, output_from};
 ghost use Rattle.trace.specs.Refusals.{refusal};
+ghost use Rattle.trace.specs.Traces.{longest};
 
 use crate::bytes::Trace;
 use crate::faults::Fault;
 use refusal::Refusal;
 use std::alloc::{AllocError, Global};
-use text::{Lines, NEWLINE};
 
 // The bytes of a row that is not too wide, written at the front of a text that holds the longest.
 #[tactic(auto, using(crate::proofs::Writing::row_written))]
@@ -50,16 +50,24 @@ fn append_refusal<F: Refusal>(out: &mut Vec<u8>, fault: F, rows: u32) -> Result<
     append_row(out, &refusal_row(fault, rows))
 }
 
-// The rows of a trace, each read and written, up to the first that is refused.
-fn append_rows(trace: &Trace, row: &mut [u32], out: &mut Vec<u8>) -> Result<(), AllocError>
+// The rows of a trace that is not too long, each read and written, up to the first that is refused.
+// Each is read where it stands, which looks at 704 bytes at most: `Lines` would first look for the
+// end of a line that has none, and for that of every line twice.
+fn append_rows(trace: &[u8], row: &mut [u32], out: &mut Vec<u8>) -> Result<(), AllocError>
+    requires { length trace.now ≤ longest }
     ensures { let output = output_from (length row.old) 0 (lines trace.now) in
         OnOk result (out.new.items ≡ out.old.items ++ output) }
 {
-    // a trace has at most 32,768 lines, so `rows` fits a word
-    for (rows, line) in Lines::new(trace.bytes).enumerate() {
-        match row::read(line, 0, row) {
-            Ok(_) => append_row(out, row)?,
-            Err(fault) => return append_refusal(out, Fault::from(fault), rows as u32),
+    let mut place = 0;
+    let mut rows = 0;
+    while place < trace.len() {
+        match row::read(trace, place, row) {
+            Ok(end) => {
+                append_row(out, row)?;
+                place = end;
+                rows += 1;
+            }
+            Err(fault) => return append_refusal(out, Fault::from(fault), rows),
         }
     }
     Ok(())
@@ -71,7 +79,7 @@ pub fn execute_rows(heap: Global, width: usize, trace: &Trace) -> Result<Vec<u8>
 {
     let mut row = vec![in heap; 0; width]?;
     let mut out = Vec::new(heap);
-    append_rows(trace, &mut row, &mut out)?;
+    append_rows(trace.bytes, &mut row, &mut out)?;
     Ok(out)
 }
 

@@ -1,38 +1,49 @@
-use Rattle.std.proofs.Common.{◌≡◌, ℕ, suc, List, ◌++◌, length, vec_items, ap, ap₂, ◌∙◌, sym, inl, arith}
-use Rattle.std.proofs.lemmas.List.{append_assoc}
-use Rattle.text.proofs.Cutting.{length_lines}
-use Rattle.text.specs.Lines.{lines}
-use Rattle.text.specs.Unread.{unread_lines}
+use Rattle.std.proofs.Common.{◌≡◌, ℕ, ◌+◌, List, ◌++◌, length, drop, vec_items, sym, ap, ◌∙◌, arith}
 use Rattle.row.specs.Rows.{row_bytes}
+use Rattle.std.proofs.lemmas.List.{append_assoc, append-nil}
+use Rattle.std.proofs.lemmas.Result.{IfOk-weaker}
+use Rattle.text.specs.Lines.{lines}
+use Rattle.trace.specs.Faults.{refusal_of}
 use Rattle.trace.specs.Output.{output_from}
-use Rattle.trace.proofs.Rows.{output_row}
+use Rattle.trace.specs.declared.faults.Fault.{Fault}
+use Rattle.trace.proofs.Steps.{output_all, output_more, output_stop}
 use Rattle.trace.proofs.output.append_rows.Goals as goal
 
-pub loop-rows-init-derived : goal.loop-rows-init-derived
-loop-rows-init-derived c =
-    let all = ap unread_lines c.enumerate-rows-items.ensures.source ∙ c.new.ensures ∙ ap lines c.trace.view_is in
-    rw (c.into_iter-rows-iterator.ensures.into_iter_gives, c.enumerate-rows-items.ensures.count)
-    ((tt, tt, inl (omega (arith, ap length all, length_lines c.args.trace.now, c.trace.invariant, ap length c.trace.view_is))), tt)
+pub loop-place-smaller : goal.loop-place-smaller
+loop-place-smaller c =
+    let more = output_more c.args.trace.now c.loop-place.place c.loop-place.rows c.loop-place.row c.read.new.row c.loop-place-test.true c.in-Ok.end c.in-Ok.ensures.all in
+    omega (arith, more.1, more.2)
 
-pub overflow_cast-rows : goal.overflow_cast-rows
-overflow_cast-rows c =
-    omega (arith, c.in-Some.ensures.steps.1, ap length c.in-Some.ensures.steps.0, c.loop-rows.invariant.1, length_lines c.args.trace.now, c.trace.invariant, ap length c.trace.view_is)
-
-pub loop-rows-preserved : goal.loop-rows-preserved
-loop-rows-preserved c =
-    let rows = c.loop-rows.rows-iterator.count in
-    let row = c.loop-rows.row in
-    let out = vec_items c.loop-rows.out in
-    let rest = unread_lines c.next.new.self.iter in
-    let steps = c.in-Some.ensures.steps in
-    let first = steps.0 in
-    let more = output_row rows c.in-Some.line.now row c.read.new.row rest c.in-Ok.field-0 c.in-Ok.ensures.all in
-    let width : length c.read.new.row ≡ length row = omega arith in
-    let next : c.next.new.self.count ≡ suc rows = omega (arith, steps.2) in (
-      ap₂ (λ (n m : ℕ). vec_items c.append_row.new.out ++ output_from n m rest) width next
-          ∙ ap (λ (xs : List ℕ). xs ++ output_from (length row) (suc rows) rest) c.in_ok-append_row-in-Ok.ensures
-          ∙ append_assoc out (row_bytes c.read.new.row) (output_from (length row) (suc rows) rest)
-          ∙ ap (λ (xs : List ℕ). out ++ xs) (sym (ap (output_from (length row) rows) first ∙ more))
-          ∙ c.loop-rows.invariant.0,
-      omega (arith, steps.2, ap length first, c.loop-rows.invariant.1),
+pub loop-place-preserved : goal.loop-place-preserved
+loop-place-preserved c =
+    let trace = c.args.trace.now in
+    let rows = c.loop-place.rows in
+    let out = vec_items c.loop-place.out in
+    let after = c.read.new.row in
+    let same : length after ≡ length c.loop-place.row = omega arith in
+    let more = output_more trace c.loop-place.place rows c.loop-place.row after c.loop-place-test.true c.in-Ok.end c.in-Ok.ensures.all in
+    let rest = output_from (length c.loop-place.row) (rows + 1) (lines (drop c.in-Ok.end trace)) in (
+      ap (λ (xs : List ℕ). xs ++ output_from (length after) (rows + 1) (lines (drop c.in-Ok.end trace))) c.in_ok-append_row-in-Ok.ensures
+          ∙ ap (λ (n : ℕ). (out ++ row_bytes after) ++ output_from n (rows + 1) (lines (drop c.in-Ok.end trace))) same
+          ∙ append_assoc out (row_bytes after) rest
+          ∙ ap (λ (xs : List ℕ). out ++ xs) (sym more.0)
+          ∙ c.loop-place.invariant.0,
+      omega (arith, more.1),
+      more.2,
     )
+
+pub returns-in-Err : goal.returns-in-Err
+returns-in-Err c =
+    let out = vec_items c.loop-place.out in
+    IfOk-weaker c.append_refusal.result _ _
+    (λ x e. e
+    ∙ ap (λ (fault : Fault). out ++ refusal_of fault c.loop-place.rows) c.from.ensures
+    ∙ ap (λ (xs : List ℕ). out ++ xs) (sym (output_stop c.args.trace.now c.loop-place.place c.loop-place.rows c.loop-place.row c.read.new.row c.loop-place-test.true c.in-Err.fault c.in-Err.ensures.all))
+    ∙ c.loop-place.invariant.0)
+    c.append_refusal.ensures
+
+pub returns : goal.returns
+returns c =
+    sym (append-nil (vec_items c.loop-place.out))
+    ∙ ap (λ (xs : List ℕ). vec_items c.loop-place.out ++ xs) (sym (output_all (length c.loop-place.row) c.loop-place.rows c.args.trace.now c.loop-place.place c.loop-place-test.false))
+    ∙ c.loop-place.invariant.0
