@@ -1,2 +1,2 @@
-mod Charted
-mod Echo
+pub mod Charted
+pub mod Echo

@@ -5,6 +5,7 @@ ghost use Rattle.faults.specs.declared.charts.ChartFault.TheVariants.{Memory};
 ghost use Rattle.structure.specs.Verdicts.{Asked};
 ghost use Rattle.execution.specs.Output.{OutputEchoes, output, shipped_verdict, width_of};
 ghost use Rattle.execution.specs.Stops.{Tells};
+ghost use Rattle.trace.specs.Traces.{longest};
 
 use crate::stops::Stop;
 use faults::{ChartFault, Fault};
@@ -16,6 +17,14 @@ use trace::{Trace, execute_rows, refuse};
 /// The bytes of the longest trace, which are as many as those of the longest chart: two rules with
 /// one number.
 pub const MOST_BYTES: usize = linefile::MOST_BYTES;
+
+// The limit that is handed out is the one that `Trace::new` asks for. A constant has no clause, so
+// it is said of this.
+fn most_bytes() -> usize
+    ensures { result ≡ longest }
+{
+    MOST_BYTES
+}
 
 // How many words each row of a trace has: one for each input of the chart.
 fn chart_width(heap: Global, chart: &[u8]) -> Result<usize, ChartFault>

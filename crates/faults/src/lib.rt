@@ -9,3 +9,4 @@ mod outputs;
 pub use charts::ChartFault;
 pub use lines::{FileFault, LineFault};
 pub use outputs::Fault;
+pub use refusal::Refusal;
