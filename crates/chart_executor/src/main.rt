@@ -13,8 +13,8 @@ const CHART: &str = "chart.txt";
 // Each program names its files and has its own limit: a program calls no other.
 const TRACE: &str = "trace.txt";
 
-// The bytes of a file, up to one more than a chart or a trace may have. `main` and the test read by it, so the
-// program's own limit is what is tested.
+// The bytes of a file, up to one more than a chart or a trace may have. `main` and the test read by
+// it, so the program's own limit is what is tested.
 fn read_file(rt: &(impl Files + AllocGlobal), path: &str) -> io::Result<Vec<u8>>
     ensures { IfOk result (λ bytes. vec_len bytes ≤ longest + 1) }
 {
