@@ -64,8 +64,9 @@ fn ranks_rise_or_the_lowest_node_on_a_ring_is_told(rt: HostRuntime) -> Result<()
 
 #[test]
 fn a_graph_that_no_memory_holds_is_told_at_once(rt: HostRuntime) {
-    // a row alone would be 8 GiB, and the square of the count is no `usize`
-    let size = 1 << 33;
+    // the cells are 256 TiB, more than a process can address, but a row is only 16 MiB: without the
+    // question for room it would fill one row after another
+    let size = 1 << 24;
     let answer = rank(rt.alloc(), &Chain { size, back: size });
     assert!(rt; matches!(answer, Err(Unranked::Memory(_))));
 }
